@@ -1,0 +1,3 @@
+pub mod Paper
+pub mod Names
+pub mod Limits

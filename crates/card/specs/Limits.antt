@@ -1,0 +1,30 @@
+-- What an accepted size says, and that it is accepted exactly then; and that no two refusals have one number. Assumes nothing.
+use mathlib.Core.Path.{_≡_}
+use mathlib.Core.Bool.{Bool, true, false, _&&_}
+use Prim.Native.Nat.{ℕ, _≤_}
+use lib.Dec.{leb}
+use borrow.Author.Tests.{leb-true, le-leb}
+use Rattle.masks.specs.Tests.{and-true, and-both}
+use Rattle.card.specs.Paper.{ports, depth, within, portsFit, cardFits}
+
+pub record Within (most x : ℕ) : Type 0 where
+  pub low : 1 ≤ x
+  pub high : x ≤ most
+
+pub within-is : (most x : ℕ) → within most x ≡ true → Within most x
+within-is most x e = let h = and-both _ _ e in record { low = leb-true 1 x (h .0); high = leb-true x most (h .1) }
+
+pub is-within : (most x : ℕ) → Within most x → within most x ≡ true
+is-within most x h = and-true (le-leb 1 x (h .low)) (le-leb x most (h .high))
+
+pub record Ports (m n : ℕ) : Type 0 where
+  pub ins : Within ports m
+  pub outs : Within ports n
+
+pub ports-are : (m n : ℕ) → portsFit m n ≡ true → Ports m n
+unfolding portsFit
+ports-are m n e = let h = and-both _ _ e in record { ins = within-is ports m (h .0); outs = within-is ports n (h .1) }
+
+pub are-ports : (m n : ℕ) → Ports m n → portsFit m n ≡ true
+unfolding portsFit
+are-ports m n h = and-true (is-within ports m (h .ins)) (is-within ports n (h .outs))
