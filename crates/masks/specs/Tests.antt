@@ -151,6 +151,11 @@ unfolding every
 at-every zero b h = refl
 at-every (suc n) b h = and-true (at-every n b (λ i l. h i (omega arith))) (h n (omega arith))
 
+pub every-cong : (n : ℕ) (b c : ℕ → Bool) → ((i : ℕ) → i < n → b i ≡ c i) → every n b ≡ every n c
+unfolding every
+every-cong zero b c h = refl
+every-cong (suc n) b c h = ap₂ _&&_ (every-cong n b c (λ i l. h i (omega arith))) (h n (omega arith))
+
 pub some-of : (n : ℕ) (b : ℕ → Bool) (i : ℕ) → i < n → b i ≡ true → some n b ≡ true
 unfolding some
 some-of zero b i l e = absurd (omega arith)

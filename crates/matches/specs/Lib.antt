@@ -1,0 +1,17 @@
+pub mod Paper
+pub mod Owner
+pub mod Certificate
+pub mod Sides
+pub mod Flip
+pub mod Rotation
+pub mod Heaviest
+pub mod Decide
+pub mod Order
+pub mod Lists
+pub mod Computed
+pub mod Table
+pub mod Accepted
+pub mod Ranks
+pub mod Demand3
+pub mod Ignored
+pub mod Bench
