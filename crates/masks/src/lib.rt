@@ -29,11 +29,7 @@ pub fn minus(a: u32, b: u32) -> u32
 pub fn has(m: u32, j: u32) -> bool
     ensures { λ r. ⌜ r ≡ has m j ⌝ }
 {
-    if j < 32 {
-        (m >> j) & 1 == 1
-    } else {
-        false
-    }
+    if j < 32 { (m >> j) & 1 == 1 } else { false }
 }
 
 // m and port j.

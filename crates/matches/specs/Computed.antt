@@ -40,18 +40,18 @@ module _ (rows wi wo : List ℕ) where
   weigh i (j ∷ p) = gain wi wo i j + weigh (suc i) p
 
   -- a is heavier than q, or as heavy and not after it
-  abbrev Leads : ℕ → Part → List ℕ → Type 0
+  abbrev pub Leads : ℕ → Part → List ℕ → Type 0
   Leads i a q = (weigh i q < a .weighs) ⊎ ((weigh i q ≡ a .weighs) × First (a .partners) q)
 
-  at-most : (i : ℕ) (a : Part) (q : List ℕ) → Leads i a q → weigh i q ≤ a .weighs
+  pub at-most : (i : ℕ) (a : Part) (q : List ℕ) → Leads i a q → weigh i q ≤ a .weighs
   at-most i a q (inl h) = omega arith
   at-most i a q (inr h) = omega (arith, h .0)
 
-  record Good (n i : ℕ) (taken : List ℕ) (a : Part) : Type 0 where
-    long : length (a .partners) ≡ n
-    fits : Fits i taken (a .partners)
-    heavy : weigh i (a .partners) ≡ a .weighs
-    leads : (q : List ℕ) → length q ≡ n → Fits i taken q → Leads i a q
+  pub record Good (n i : ℕ) (taken : List ℕ) (a : Part) : Type 0 where
+    pub long : length (a .partners) ≡ n
+    pub fits : Fits i taken (a .partners)
+    pub heavy : weigh i (a .partners) ≡ a .weighs
+    pub leads : (q : List ℕ) → length q ≡ n → Fits i taken q → Leads i a q
 
   -- one input: what `pick` finds leads every list whose first partner is j or later
   record Found (n i : ℕ) (taken : List ℕ) (j : ℕ) (a : Part) : Type 0 where
@@ -158,7 +158,7 @@ module _ (rows wi wo : List ℕ) where
         leads [] l g = absurd (omega arith)
         leads (k ∷ q) l g = f .leads k q (omega arith) (suc-inj l) g
 
-  search-good : (n i : ℕ) (taken : List ℕ) → Good n i taken (bestFrom rows wi wo n i taken)
+  pub search-good : (n i : ℕ) (taken : List ℕ) → Good n i taken (bestFrom rows wi wo n i taken)
   unfolding bestFrom free with last
   search-good zero i taken = record { long = refl; fits = tt; heavy = refl; leads = leads }
     where
@@ -168,13 +168,13 @@ module _ (rows wi wo : List ℕ) where
   search-good (suc n) i taken = found-good n i taken (bestFrom rows wi wo n (suc i)) (search-good n (suc i)) _ (picked n i taken (bestFrom rows wi wo n (suc i)) (search-good n (suc i)) ports 0 refl)
 
   -- `Fits`, place by place
-  record Apart (i : ℕ) (taken p : List ℕ) : Type 0 where
-    named : (k : ℕ) → (partner p k < ports) ⊎ (partner p k ≡ none)
-    asked : (k m : ℕ) → m ≡ i + k → partner p k < ports → asks rows m (partner p k) ≡ true
-    fresh : (k : ℕ) → partner p k < ports → not (member (partner p k) taken) ≡ true
-    once : (k l : ℕ) → partner p k < ports → partner p k ≡ partner p l → k ≡ l
+  pub record Apart (i : ℕ) (taken p : List ℕ) : Type 0 where
+    pub named : (k : ℕ) → (partner p k < ports) ⊎ (partner p k ≡ none)
+    pub asked : (k m : ℕ) → m ≡ i + k → partner p k < ports → asks rows m (partner p k) ≡ true
+    pub fresh : (k : ℕ) → partner p k < ports → not (member (partner p k) taken) ≡ true
+    pub once : (k l : ℕ) → partner p k < ports → partner p k ≡ partner p l → k ≡ l
 
-  to-fits : (p : List ℕ) (i : ℕ) (taken : List ℕ) → Apart i taken p → Fits i taken p
+  pub to-fits : (p : List ℕ) (i : ℕ) (taken : List ℕ) → Apart i taken p → Fits i taken p
   unfolding member
   to-fits [] i taken a = tt
   to-fits (j ∷ p) i taken a = go (λ t. to-fits p (suc i) t) (a .named 0)
@@ -239,12 +239,12 @@ module _ (rows wi wo : List ℕ) where
       once (suc k) zero h e = absurd (differs k h e)
       once (suc k) (suc l) h e = ap suc (a .once k l h e)
 
-  from-fits : (p : List ℕ) (i : ℕ) (taken : List ℕ) → Fits i taken p → Apart i taken p
+  pub from-fits : (p : List ℕ) (i : ℕ) (taken : List ℕ) → Fits i taken p → Apart i taken p
   from-fits [] i taken f = record { named = λ k. inr refl; asked = λ k m e h. absurd (omega arith); fresh = λ k h. absurd (omega arith); once = λ k l h e. absurd (omega arith) }
   from-fits (j ∷ p) i taken (inl f) = with-none i j taken p (f .0) (from-fits p (suc i) taken (f .1))
   from-fits (j ∷ p) i taken (inr f) = with-output i j taken p (f .0) (f .1) (from-fits p (suc i) (j ∷ taken) (f .2))
 
-  sum-weigh : (p : List ℕ) (i : ℕ) (f : ℕ → ℕ) → ((k m : ℕ) → m ≡ i + k → f k ≡ gain wi wo m (partner p k)) → sum (length p) f ≡ weigh i p
+  pub sum-weigh : (p : List ℕ) (i : ℕ) (f : ℕ → ℕ) → ((k m : ℕ) → m ≡ i + k → f k ≡ gain wi wo m (partner p k)) → sum (length p) f ≡ weigh i p
   unfolding sum
   sum-weigh [] i f h = refl
   sum-weigh (j ∷ p) i f h = sum-head (length p) f ∙ ap₂ _+_ (h 0 i (omega arith)) (sum-weigh p (suc i) (λ k. f (suc k)) (λ k m e. h (suc k) m (omega arith)))

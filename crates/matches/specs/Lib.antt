@@ -15,3 +15,4 @@ pub mod Ranks
 pub mod Demand3
 pub mod Ignored
 pub mod Bench
+pub mod Rest

@@ -1,0 +1,481 @@
+-- The inputs fixed one by one: what holds after each, and that each choice is the one of `best`. Assumes nothing.
+use mathlib.Core.Path.{_≡_, refl, sym, ap, ap₂, subst, _∙_}
+use mathlib.Core.Logic.{_⊎_, inl, inr, _≢_}
+use mathlib.Core.Bool.{Bool, true, false, not, _&&_, _||_, and-false}
+use mathlib.Core.List.{List, [], _∷_, map}
+use Prim.Native.Nat.{ℕ, zero, suc, _+_, _-_, _≤_, _<_, min}
+use native.Mathlib.Nat.{le-antisymm}
+use native.Mathlib.Omega.{arith}
+use native.Mathlib.Numerals.{add-one}
+use lib.ListN.{length, getD, set, replicate, length-replicate, getD-replicate}
+use lib.Seq.{getD-set-other}
+use lib.Dec.{leb, ltb, eqb}
+use borrow.Author.Tests.{leb-true, le-leb, lt-leb, eq-eqb, ne-eqb}
+use Rattle.masks.specs.Paper.{bit, has, keep, sum, Without, Below, Lowest}
+use Rattle.masks.specs.Tests.{cases, lt-or-ge, eq-or-ne, clash, off, and-true, and-both, keep-lt}
+use Rattle.masks.specs.Sum.{sum-cong}
+use Rattle.masks.specs.Laws.{bit-lt, bit-of-zero, has-on, on-has, off-has}
+use Rattle.card.specs.Paper.{none, out}
+use Rattle.card.specs.declared.Out.{Out}
+use Rattle.matches.specs.Paper.{at, member, asks, Match, total, weight, partner, weightOf, gain, add, bestFrom, best}
+use Rattle.matches.specs.Sides.{Greatest}
+use Rattle.matches.specs.Computed.{best-is-best}
+use Rattle.matches.specs.Demand3.{list-greatest}
+use Rattle.matches.specs.Flip.{put, put-same, put-other, put-match, drop-match, total-join, total-drop}
+use Rattle.matches.specs.Rest.{canTake, restE, rest-weight, option, choose-output, choose-none, takenOf, taken-set-output, taken-none, Fixed, fixed-begin, fixed-end, fixed-output, fixed-kept}
+use Rattle.search.specs.declared.pairing.Pairing.{Pairing}
+use Rattle.search.specs.declared.problem.Problem.{Problem}
+use Rattle.search.specs.declared.choice.Rest.{Rest}
+use Rattle.search.specs.declared.choice.Found.{Found}
+use Rattle.search.specs.Pair.{Pairs, Paired, Unlink}
+use Rattle.search.specs.Stage.{wants}
+use Rattle.search.specs.Problem.{Sound, Struck, WithoutPair}
+use Rattle.search.specs.Heaviest.{Heaviest, match-of}
+
+-- ---- partners as outputs and as numbers
+
+abbrev pub numbers : List Out → List ℕ
+numbers l = map (λ o. o .0) l
+
+pub numbers-set : (l : List Out) (i j : ℕ) → numbers (set l i (out j)) ≡ set (numbers l) i j
+numbers-set [] i j = refl
+numbers-set (o ∷ l) zero j = refl
+numbers-set (o ∷ l) (suc i) j = ap (λ (t : List ℕ). o .0 ∷ t) (numbers-set l i j)
+
+pub numbers-length : (l : List Out) → length (numbers l) ≡ length l
+numbers-length [] = refl
+numbers-length (o ∷ l) = ap suc (numbers-length l)
+
+-- ---- what is left
+
+-- after the inputs below i: the problem that is left, a heaviest match of it, and the partners fixed, which are those of `best`
+pub record State (rows ins outs : List ℕ) (s : Rest) (i : ℕ) : Type 0 where
+  pub sound : Sound (s .problem)
+  pub heavy : Heaviest (s .problem .rows) ins outs (s .pairing)
+  pub weighs : s .weight ≡ weight 32 32 (at ins) (at outs) (at (s .pairing .mine))
+  pub left : (k b : ℕ) → k < 32 → b < 32 → asks (s .problem .rows) k b ≡ restE rows i (takenOf (numbers (s .partners)) i) k b
+  pub fixed : Fixed rows ins outs (numbers (s .partners)) i
+  pub unset : (k : ℕ) → i ≤ k → k < 32 → at (numbers (s .partners)) k ≡ none
+
+-- input i goes to output j: what that leaves, with a heaviest match of it
+pub record Gone (ins outs : List ℕ) (s : Rest) (i j : ℕ) (t : Rest) : Type 0 where
+  pub less : WithoutPair (s .problem) i j (t .problem)
+  pub heavy : Heaviest (t .problem .rows) ins outs (t .pairing)
+  pub weighs : t .weight ≡ weight 32 32 (at ins) (at outs) (at (t .pairing .mine))
+  pub small : t .weight < 274877906944
+  pub partners : t .partners ≡ set (s .partners) i (out j)
+
+-- the option b for input i weighs less than the whole
+abbrev pub FailsAt : (rows ins outs : List ℕ) → Rest → ℕ → ℕ → Type 0
+FailsAt rows ins outs s i b =
+    canTake rows i (takenOf (numbers (s .partners)) i) b ≡ true → option rows ins outs (31 - i) i (takenOf (numbers (s .partners)) i) b ≡ s .weight → ⊥
+
+-- the candidates below the present partner that are left; the others fail
+pub record Placing (rows ins outs : List ℕ) (s : Rest) (i left : ℕ) : Type 0 where
+  pub within : (b : ℕ) → b < 32 → bit left b ≡ 1 → (bit (at (s .problem .rows) i) b ≡ 1) × (b < at (s .pairing .mine) i)
+  pub failed : (b : ℕ) → b < 32 → b < at (s .pairing .mine) i → bit left b ≡ 0 → FailsAt rows ins outs s i b
+
+-- what the code needs of what is left
+pub record Fit (s : Rest) : Type 0 where
+  pub sound : Sound (s .problem)
+  pub paired : Paired (wants (s .problem .rows)) (s .pairing)
+
+-- the partners of `best`, and its weight
+pub record FirstOf (rows ins outs : List ℕ) (r : Found) : Type 0 where
+  pub partners : numbers (r .partners) ≡ best rows ins outs
+  pub weighs : r .weight ≡ weightOf ins outs (best rows ins outs)
+
+-- i and j have nothing
+pub record Parted (p : Pairing) (i j : ℕ) (r : Pairing) : Type 0 where
+  pub keeps : (E F : ℕ → ℕ → ℕ) → Paired E p → ((x b : ℕ) → x < 32 → b < 32 → x ≢ i → b ≢ j → E x b ≡ 1 → F x b ≡ 1) → Paired F r
+
+-- ---- requests that agree
+
+module _ {E F : ℕ → ℕ → Bool} (e : (k b : ℕ) → k < 32 → b < 32 → E k b ≡ F k b) where
+  match-over : (p : ℕ → ℕ) → Match E 32 32 p → Match F 32 32 p
+  match-over p m = record { asked = λ i li l. sym (e i (p i) li l) ∙ m .asked i li l; apart = m .apart }
+
+greatest-over : {E F : ℕ → ℕ → Bool} (e : (k b : ℕ) → k < 32 → b < 32 → E k b ≡ F k b) (w v p : ℕ → ℕ) → Greatest E 32 32 w v p → Greatest F 32 32 w v p
+greatest-over e w v p g q m = g q (match-over (λ k b lk lb. sym (e k b lk lb)) q m)
+
+total-same : (g : ℕ → ℕ → ℕ) (p q : ℕ → ℕ) → ((i : ℕ) → i < 32 → p i ≡ q i) → total 32 32 g p ≡ total 32 32 g q
+total-same g p q h = sum-cong 32 (λ i. keep (ltb (p i) 32) (g i (p i))) (λ i. keep (ltb (q i) 32) (g i (q i))) (λ i l. ap (λ (j : ℕ). keep (ltb j 32) (g i j)) (h i l))
+
+paired-over : (E F : ℕ → ℕ → ℕ) (p : Pairing) → ((x : ℕ) → x < 32 → at (p .mine) x < 32 → F x (at (p .mine) x) ≡ 1) → Paired E p → Paired F p
+paired-over E F p a h = record { pairs = record { asked = a; back = h .pairs .back; forth = h .pairs .forth }; idle = h .idle; vacant = h .vacant }
+
+-- a pairing in which i and j have nothing is one of whatever keeps the other requests
+parted-over : (E F : ℕ → ℕ → ℕ) (p : Pairing) (i j : ℕ) → Paired E p → 32 ≤ at (p .mine) i → 32 ≤ at (p .theirs) j
+    → ((x b : ℕ) → x < 32 → b < 32 → x ≢ i → b ≢ j → E x b ≡ 1 → F x b ≡ 1) → Paired F p
+parted-over E F p i j h gi gj sub = paired-over E F p (λ x lx l.
+    sub x (at (p .mine) x) lx l (λ e. omega (arith, ap (at (p .mine)) e)) (λ e. omega (arith, ap (at (p .theirs)) e, h .pairs .back x lx l)) (h .pairs .asked x lx l)) h
+
+pub parted-one : (p q : Pairing) (i j k : ℕ) → i < 32 → j < 32 → k ≡ at (q .theirs) j → 32 ≤ k → Unlink p i q → Parted p i j q
+parted-one p q i j k li lj ek g u = record {
+  keeps = λ E F h sub. parted-over E F q i j (u .keeps E h) (omega (arith, u .changed .mine .here)) (omega arith) sub;
+}
+
+pub parted-both : (p q r : Pairing) (i j k : ℕ) → i < 32 → j < 32 → k ≡ at (q .theirs) j → k < 32 → Unlink p i q → Unlink q k r → Parted p i j r
+parted-both p q r i j k li lj ek l u v = record { keeps = λ E F h sub. one E F (u .keeps E h) sub }
+  where
+    one : (E F : ℕ → ℕ → ℕ) → Paired E q → ((x b : ℕ) → x < 32 → b < 32 → x ≢ i → b ≢ j → E x b ≡ 1 → F x b ≡ 1) → Paired F r
+    one E F h sub =
+        let m : at (q .mine) k ≡ j = ap (at (q .mine)) ek ∙ h .pairs .forth j lj (omega arith) in
+        parted-over E F r i j (v .keeps E h) (idle (eq-or-ne i k)) (omega (arith, v .changed .gave (omega arith), ap (at (r .theirs)) m)) sub
+      where
+        idle : (i ≡ k) ⊎ (i ≢ k) → 32 ≤ at (r .mine) i
+        idle (inl e) = omega (arith, ap (at (r .mine)) e, v .changed .mine .here)
+        idle (inr d) = omega (arith, v .changed .mine .other i d, u .changed .mine .here)
+
+-- from i on and not i: after i
+later : (k i : ℕ) → k ≢ i → leb i k ≡ leb (suc i) k
+later k i d = go (lt-or-ge k i)
+  where
+    go : (k < i) ⊎ (i ≤ k) → leb i k ≡ leb (suc i) k
+    go (inl l) = lt-leb i k l ∙ sym (lt-leb (suc i) k (omega arith))
+    go (inr g) = le-leb i k g ∙ sym (le-leb (suc i) k (omega arith))
+
+-- ---- one input
+
+module _ (rows ins outs : List ℕ) (s : Rest) (i : ℕ) (li : i < 32) (h : State rows ins outs s i) where
+  abbrev Taken : List ℕ
+  Taken = takenOf (numbers (s .partners)) i
+
+  fill : suc (31 - i) + i ≡ 32
+  fill = omega arith
+
+  fill-next : 31 - i + suc i ≡ 32
+  fill-next = omega arith
+
+  -- the weight at hand is the one of `bestFrom`
+  whole : bestFrom rows ins outs (suc (31 - i)) i Taken .weighs ≡ s .weight
+  whole =
+      sym (rest-weight rows ins outs (suc (31 - i)) i fill Taken (at (s .pairing .mine))
+      (match-over (h .left) (at (s .pairing .mine)) (match-of (s .problem .rows) (s .pairing) (h .heavy .paired)))
+      (greatest-over (h .left) (at ins) (at outs) (at (s .pairing .mine)) (h .heavy .greatest)))
+      ∙ sym (h .weighs)
+
+  -- who can take an output, in the rows at hand
+  can-take : (b : ℕ) → b < 32 → asks (s .problem .rows) i b ≡ canTake rows i Taken b
+  can-take b lb = h .left i b li lb ∙ ap (λ (t : Bool). t && canTake rows i Taken b) (le-leb i i (omega arith))
+
+  -- ---- input i goes to output j
+
+  module _ (j : ℕ) (lj : j < 32) (less : Problem) (wp : WithoutPair (s .problem) i j less) where
+    less-left : (k b : ℕ) → k < 32 → b < 32 → asks (less .rows) k b ≡ restE rows (suc i) (j ∷ Taken) k b
+    unfolding asks member
+    less-left k b lk lb = go (eq-or-ne k i) (eq-or-ne b j)
+      where
+        go : (k ≡ i) ⊎ (k ≢ i) → (b ≡ j) ⊎ (b ≢ j) → asks (less .rows) k b ≡ restE rows (suc i) (j ∷ Taken) k b
+        go (inl e) q = off-has _ b (ap (λ (x : ℕ). bit (at (less .rows) x) b) e ∙ wp .rows .row b lb li) ∙ sym (ap (λ (t : Bool). t && canTake rows k (j ∷ Taken) b) (lt-leb (suc i) k (omega arith)))
+        go (inr e) (inl q) = off-has _ b (ap (bit (at (less .rows) k)) q ∙ wp .rows .column k lk lj) ∙ sym (gone (leb (suc i) k) (asks rows k b) (member b Taken) (eqb b j) (eq-eqb b j q))
+          where
+            gone : (x y z t : Bool) → t ≡ true → (x && (y && not (t || z))) ≡ false
+            gone x true z t e = rw e (and-false x)
+            gone x false z t e = and-false x
+        go (inr e) (inr q) =
+            ap {B = Bool} (λ (x : ℕ). eqb x 1) (wp .rows .other k b lk lb e q)
+            ∙ h .left k b lk lb
+            ∙ ap₂ (λ (x z : Bool). x && (asks rows k b && not (z || member b Taken))) (later k i e) (sym (ne-eqb b j q))
+
+    -- the problem that is left has the requests of the one at hand, but for i and j
+    less-sub : (k b : ℕ) → k < 32 → b < 32 → asks (less .rows) k b ≡ true → (k ≢ i) × (b ≢ j) × (asks (s .problem .rows) k b ≡ true)
+    unfolding asks
+    less-sub k b lk lb e = (no-i, no-j, on-has _ b (sym (wp .rows .other k b lk lb no-i no-j) ∙ one))
+      where
+        one : bit (at (less .rows) k) b ≡ 1
+        one = has-on _ b e
+
+        no-i : k ≢ i
+        no-i q = absurd (omega (arith, wp .rows .row b lb li, ap (λ (x : ℕ). bit (at (less .rows) x) b) q, one))
+
+        no-j : b ≢ j
+        no-j q = absurd (omega (arith, wp .rows .column k lk lj, ap (bit (at (less .rows) k)) q, one))
+
+    abbrev worth : ℕ → ℕ → ℕ
+    worth k b = at ins k + at outs b
+
+    -- what the option weighs, by a heaviest match of what it leaves
+    option-is : (q : Pairing) → Heaviest (less .rows) ins outs q → option rows ins outs (31 - i) i Taken j ≡ worth i j + weight 32 32 (at ins) (at outs) (at (q .mine))
+    unfolding gain
+    option-is q g =
+        let w = rest-weight rows ins outs (31 - i) (suc i) fill-next (j ∷ Taken) (at (q .mine))
+        (match-over less-left (at (q .mine)) (match-of (less .rows) q (g .paired))) (greatest-over less-left (at ins) (at outs) (at (q .mine)) (g .greatest)) in
+        omega (arith, w, keep-lt j 32 (worth i j) lj)
+
+    -- ---- the match at hand has i at j: without that pair it is heaviest for what is left
+    module _ (now : at (s .pairing .mine) i ≡ j) (q : Pairing) (u : Unlink (s .pairing) i q) where
+      m : ℕ → ℕ
+      m = at (s .pairing .mine)
+
+      kept-paired : Paired (wants (less .rows)) q
+      kept-paired = parted-over (wants (s .problem .rows)) (wants (less .rows)) q i j (u .keeps _ (h .heavy .paired)) (omega (arith, u .changed .mine .here))
+          (omega (arith, u .changed .gave (omega arith), ap (at (q .theirs)) now)) (λ x b lx lb d e o. wp .rows .other x b lx lb d e ∙ o)
+
+      dropped : (k : ℕ) → k < 32 → at (q .mine) k ≡ put m i 32 k
+      unfolding m
+      dropped k lk = go (eq-or-ne k i)
+        where
+          go : (k ≡ i) ⊎ (k ≢ i) → at (q .mine) k ≡ put m i 32 k
+          go (inl e) = ap (at (q .mine)) e ∙ u .changed .mine .here ∙ sym (put-same m i 32 k e)
+          go (inr d) = u .changed .mine .other k d ∙ sym (put-other m i 32 k d)
+
+      kept-weight : weight 32 32 (at ins) (at outs) (at (q .mine)) + worth i j ≡ weight 32 32 (at ins) (at outs) (at (s .pairing .mine))
+      unfolding m
+      kept-weight = omega (
+        arith,
+        total-same worth (at (q .mine)) (put m i 32) dropped,
+        total-drop 32 32 worth m i 32 li (omega arith) (omega arith),
+        ap (worth i) now,
+      )
+
+      kept-greatest : Greatest (asks (less .rows)) 32 32 (at ins) (at outs) (at (q .mine))
+      kept-greatest y my = omega (
+        arith,
+        h .heavy .greatest (put y i j) (put-match over i j asked free),
+        total-join 32 32 worth y i j li idle lj,
+        kept-weight,
+      )
+        where
+          over : Match (asks (s .problem .rows)) 32 32 y
+          over = record { asked = λ k lk l. less-sub k (y k) lk l (my .asked k lk l) .2; apart = my .apart }
+
+          asked : asks (s .problem .rows) i j ≡ true
+          asked = subst (λ (b : ℕ). asks (s .problem .rows) i b ≡ true) now (match-of (s .problem .rows) (s .pairing) (h .heavy .paired) .asked i li (omega arith))
+
+          free : (k : ℕ) → k < 32 → y k ≢ j
+          free k lk e = less-sub k (y k) lk (omega arith) (my .asked k lk (omega arith)) .1 e
+
+          idle : 32 ≤ y i
+          idle = go (lt-or-ge (y i) 32)
+            where
+              go : (y i < 32) ⊎ (32 ≤ y i) → 32 ≤ y i
+              go (inl l) = absurd (less-sub i (y i) li l (my .asked i li l) .0 refl)
+              go (inr g) = g
+
+      pub kept : Heaviest (less .rows) ins outs q
+      kept = record { paired = kept-paired; greatest = kept-greatest }
+
+  -- ---- the choice
+
+  abbrev Fails : ℕ → Type 0
+  Fails b = FailsAt rows ins outs s i b
+
+  -- one that is not requested
+  pub fails-idle : (b : ℕ) → b < 32 → bit (at (s .problem .rows) i) b ≡ 0 → Fails b
+  unfolding asks
+  fails-idle b lb z c o = clash (can-take b lb ∙ c) (off-has (at (s .problem .rows) i) b z)
+
+  module _ (j : ℕ) (lj : j < 32) (t : Rest) (d : Gone ins outs s i j t) where
+    -- one whose trial weighs less
+    pub fails-trial : (t .weight + (at ins i + at outs j) ≡ s .weight → ⊥) → Fails j
+    fails-trial ne c o = ne (omega (arith, option-is j lj (t .problem) (d .less) (t .pairing) (d .heavy), d .weighs))
+
+    numbers-are : numbers (t .partners) ≡ set (numbers (s .partners)) i j
+    numbers-are = ap numbers (d .partners) ∙ numbers-set (s .partners) i j
+
+    inside : i < length (numbers (s .partners))
+    inside = omega (arith, h .fixed .full)
+
+    -- the first that does not fail
+    pub gone-state : asks (s .problem .rows) i j ≡ true → t .weight + (at ins i + at outs j) ≡ s .weight → ((b : ℕ) → b < j → Fails b) → State rows ins outs t (suc i)
+    gone-state a e below = record {
+      sound = d .less .sound;
+      heavy = d .heavy;
+      weighs = d .weighs;
+      left = λ k b lk lb. less-left j lj (t .problem) (d .less) k b lk lb ∙ ap (λ (x : List ℕ). restE rows (suc i) x k b) (sym now-taken);
+      fixed = rw numbers-are (fixed-output rows ins outs (numbers (s .partners)) (31 - i) i fill (h .fixed) j lj chosen);
+      unset = λ k l lk. ap (λ (x : List ℕ). at x k) numbers-are ∙ getD-set-other (numbers (s .partners)) i k j 0 (λ q. omega arith) ∙ h .unset k (omega arith) lk;
+    }
+      where
+        now-taken : takenOf (numbers (t .partners)) (suc i) ≡ j ∷ Taken
+        now-taken = ap (λ (x : List ℕ). takenOf x (suc i)) numbers-are ∙ taken-set-output (numbers (s .partners)) i j inside lj
+
+        chosen : bestFrom rows ins outs (suc (31 - i)) i Taken ≡ add j (gain ins outs i j) (bestFrom rows ins outs (31 - i) (suc i) (j ∷ Taken))
+        chosen = choose-output rows ins outs (31 - i) i Taken (s .weight) whole j lj (sym (can-take j lj) ∙ a)
+            (omega (arith, option-is j lj (t .problem) (d .less) (t .pairing) (d .heavy), d .weighs)) (λ b l c o. below b l c o)
+
+  -- ---- none: every option fails
+  module _ (j : ℕ) (g : 32 ≤ j) (idle : 32 ≤ at (s .pairing .mine) i) (less : Problem) (wp : WithoutPair (s .problem) i j less) where
+    other-row : (k b : ℕ) → k < 32 → b < 32 → k ≢ i → bit (at (less .rows) k) b ≡ bit (at (s .problem .rows) k) b
+    other-row k b lk lb d = wp .rows .other k b lk lb d (λ e. absurd (omega arith))
+
+    none-left : (k b : ℕ) → k < 32 → b < 32 → asks (less .rows) k b ≡ restE rows (suc i) Taken k b
+    unfolding asks
+    none-left k b lk lb = go (eq-or-ne k i)
+      where
+        go : (k ≡ i) ⊎ (k ≢ i) → asks (less .rows) k b ≡ restE rows (suc i) Taken k b
+        go (inl e) = off-has _ b (ap (λ (x : ℕ). bit (at (less .rows) x) b) e ∙ wp .rows .row b lb li) ∙ sym (ap (λ (t : Bool). t && canTake rows k Taken b) (lt-leb (suc i) k (omega arith)))
+        go (inr d) = ap {B = Bool} (λ (x : ℕ). eqb x 1) (other-row k b lk lb d) ∙ h .left k b lk lb ∙ ap (λ (t : Bool). t && canTake rows k Taken b) (later k i d)
+
+    none-heavy : Heaviest (less .rows) ins outs (s .pairing)
+    unfolding asks
+    none-heavy = record {
+      paired = paired-over (wants (s .problem .rows)) (wants (less .rows)) (s .pairing)
+          (λ x lx l. other-row x (at (s .pairing .mine) x) lx l (λ e. absurd (omega (arith, ap (at (s .pairing .mine)) e))) ∙ h .heavy .paired .pairs .asked x lx l) (h .heavy .paired);
+      greatest = λ y my. h .heavy .greatest y (record { asked = λ k lk l. over y my k lk l (eq-or-ne k i); apart = my .apart });
+    }
+      where
+        over : (y : ℕ → ℕ) → Match (asks (less .rows)) 32 32 y → (k : ℕ) → k < 32 → y k < 32 → (k ≡ i) ⊎ (k ≢ i) → asks (s .problem .rows) k (y k) ≡ true
+        over y my k lk l (inl e) = absurd (omega (arith, has-on (at (less .rows) k) (y k) (my .asked k lk l), ap (λ (x : ℕ). bit (at (less .rows) x) (y k)) e, wp .rows .row (y k) l li))
+        over y my k lk l (inr d) = on-has _ (y k) (sym (other-row k (y k) lk l d) ∙ has-on _ (y k) (my .asked k lk l))
+
+    pub none-state : ((b : ℕ) → b < 32 → Fails b) → (t : Rest) → t .problem ≡ less → t .pairing ≡ s .pairing → t .weight ≡ s .weight → t .partners ≡ s .partners → State rows ins outs t (suc i)
+    none-state all t ep eq ew er = record {
+      sound = rw ep (wp .sound);
+      heavy = rw (ep, eq) none-heavy;
+      weighs = rw (eq, ew) (h .weighs);
+      left = λ k b lk lb. rw ep (none-left k b lk lb ∙ ap (λ (x : List ℕ). restE rows (suc i) x k b) (sym now-taken));
+      fixed = rw er (fixed-kept rows ins outs (numbers (s .partners)) (31 - i) i fill (h .fixed) (h .unset i (omega arith) li) (choose-none rows ins outs (31 - i) i Taken (s .weight) whole all));
+      unset = λ k l lk. rw er (h .unset k (omega arith) lk);
+    }
+      where
+        now-taken : takenOf (numbers (t .partners)) (suc i) ≡ Taken
+        now-taken = rw er (taken-none (numbers (s .partners)) i (omega (arith, h .unset i (omega arith) li)))
+
+  -- ---- the candidates that are left, and those that failed
+
+  pub placing-begin : (now row below left : ℕ) → now ≡ at (s .pairing .mine) i → row ≡ at (s .problem .rows) i → Below now below
+      → ((b : ℕ) → bit left b ≡ min (bit row b) (bit below b)) → Placing rows ins outs s i left
+  placing-begin now row below left en er be e = record {
+    within = λ b lb o. (omega (arith, e b, bit-lt below b, ap (λ (x : ℕ). bit x b) er, bit-lt row b), lim b o (lt-or-ge b now));
+    failed = λ b lb l z. fails-idle b lb (omega (arith, e b, be .within b (omega arith) lb, ap (λ (x : ℕ). bit x b) er, bit-lt row b));
+  }
+    where
+      lim : (b : ℕ) → bit left b ≡ 1 → (b < now) ⊎ (now ≤ b) → b < at (s .pairing .mine) i
+      lim b o (inl l) = omega arith
+      lim b o (inr g) = absurd (omega (arith, be .above b g, e b))
+
+  module _ (left : ℕ) (pl : Placing rows ins outs s i left) (some : 0 < left) (j : ℕ) (lo : Lowest left j) where
+    pub candidate : j < 32
+    candidate = lo .inside some
+
+    pub placing-lost : Fails j → (left′ : ℕ) → Without left j left′ → Placing rows ins outs s i left′
+    placing-lost f left′ w = record {
+      within = λ b lb o. pl .within b lb (sym (w .other b (λ z. omega (arith, ap (bit left′) z, w .here))) ∙ o);
+      failed = λ b lb l o. one b lb l o (eq-or-ne b j);
+    }
+      where
+        one : (b : ℕ) → b < 32 → b < at (s .pairing .mine) i → bit left′ b ≡ 0 → (b ≡ j) ⊎ (b ≢ j) → Fails b
+        one b lb l o (inl e) = rw e f
+        one b lb l o (inr d) = pl .failed b lb l (sym (w .other b d) ∙ o)
+
+    pub placing-won : (t : Rest) → Gone ins outs s i j t → t .weight + (at ins i + at outs j) ≡ s .weight → State rows ins outs t (suc i)
+    unfolding asks
+    placing-won t d e =
+        let in-j = pl .within j candidate (lo .here candidate) in
+        gone-state j candidate t d (on-has _ j (in-j .0)) e (λ b l. pl .failed b (omega (arith, candidate)) (omega (arith, in-j .1)) (lo .none-below b l))
+
+  -- the candidates are through: input i keeps what it has
+  module _ (pl : Placing rows ins outs s i 0) where
+    all-failed : (b : ℕ) → b < 32 → b < at (s .pairing .mine) i → Fails b
+    all-failed b lb l = pl .failed b lb l (bit-of-zero b)
+
+    pub keeps-output : (now : ℕ) → now ≡ at (s .pairing .mine) i → now < 32 → (t : Rest) → WithoutPair (s .problem) i now (t .problem) → Unlink (s .pairing) i (t .pairing)
+        → t .weight ≡ weight 32 32 (at ins) (at outs) (at (t .pairing .mine)) → t .weight < 274877906944 → t .partners ≡ set (s .partners) i (out now) → State rows ins outs t (suc i)
+    unfolding asks
+    keeps-output now en l t wp u ew small ep =
+        gone-state now l t (record { less = wp; heavy = kept now l (t .problem) wp (sym en) (t .pairing) u; weighs = ew; small = small; partners = ep })
+        (on-has _ now (subst (λ (b : ℕ). bit (at (s .problem .rows) i) b ≡ 1) (sym en) (h .heavy .paired .pairs .asked i li (omega arith))))
+        (omega (arith, kept-weight now l (t .problem) wp (sym en) (t .pairing) u, h .weighs))
+        (λ b lb. all-failed b (omega arith) (omega arith))
+
+    pub keeps-none : (now : ℕ) → now ≡ at (s .pairing .mine) i → 32 ≤ now → (t : Rest) → WithoutPair (s .problem) i now (t .problem)
+        → t .pairing ≡ s .pairing → t .weight ≡ s .weight → t .partners ≡ s .partners → State rows ins outs t (suc i)
+    keeps-none now en g t wp eq ew er = none-state now g (omega arith) (t .problem) wp (λ b lb. all-failed b lb (omega arith)) t refl eq ew er
+
+-- ---- the run
+
+nobody : (x z : Bool) {y : Bool} → y ≡ false → (x && (y && z)) ≡ false
+nobody true z e = rw e
+nobody false z e = refl
+
+-- an input without a request: nothing changes
+pub skip-state : (rows ins outs : List ℕ) (s : Rest) (i : ℕ) → i < 32 → at rows i ≡ 0 → State rows ins outs s i → State rows ins outs s (suc i)
+unfolding asks
+skip-state rows ins outs s i li z h = record {
+  sound = h .sound;
+  heavy = h .heavy;
+  weighs = h .weighs;
+  left = λ k b lk lb. h .left k b lk lb ∙ same k b (eq-or-ne k i) ∙ ap (λ (x : List ℕ). restE rows (suc i) x k b) (sym now-taken);
+  fixed = fixed-kept rows ins outs (numbers (s .partners)) (31 - i) i (omega arith) (h .fixed) (h .unset i (omega arith) li)
+      (choose-none rows ins outs (31 - i) i T _ refl (λ b lb c o. clash (and-both _ _ c .0) (silent b)));
+  unset = λ k l lk. h .unset k (omega arith) lk;
+}
+  where
+    T : List ℕ
+    T = takenOf (numbers (s .partners)) i
+
+    silent : (b : ℕ) → asks rows i b ≡ false
+    silent b = off-has (at rows i) b (ap (λ (x : ℕ). bit x b) z ∙ bit-of-zero b)
+
+    now-taken : takenOf (numbers (s .partners)) (suc i) ≡ T
+    now-taken = taken-none (numbers (s .partners)) i (omega (arith, h .unset i (omega arith) li))
+
+    same : (k b : ℕ) → (k ≡ i) ⊎ (k ≢ i) → restE rows i T k b ≡ restE rows (suc i) T k b
+    same k b (inl e) = let f : asks rows k b ≡ false = ap (λ (x : ℕ). asks rows x b) e ∙ silent b in nobody (leb i k) _ f ∙ sym (nobody (leb (suc i) k) _ f)
+    same k b (inr d) = ap (λ (t : Bool). t && canTake rows k T b) (later k i d)
+
+pub state-fit : (rows ins outs : List ℕ) (s : Rest) (i : ℕ) → State rows ins outs s i → Fit s
+state-fit rows ins outs s i h = record { sound = h .sound; paired = h .heavy .paired }
+
+-- ---- the beginning and the end
+
+all-left : (rows p : List ℕ) (k b : ℕ) → asks rows k b ≡ restE rows 0 (takenOf p 0) k b
+unfolding takenOf member
+all-left rows p k b = sym (ap (λ (t : Bool). t && (asks rows k b && true)) (le-leb 0 k (omega arith)) ∙ plain (asks rows k b))
+  where
+    plain : (t : Bool) → (t && true) ≡ t
+    plain true = refl
+    plain false = refl
+
+numbers-replicate : (n j : ℕ) → numbers (replicate n (out j)) ≡ replicate n j
+numbers-replicate zero j = refl
+numbers-replicate (suc n) j = ap (λ (l : List ℕ). j ∷ l) (numbers-replicate n j)
+
+pub no-partners : (k : ℕ) → k < 32 → at (numbers (replicate 32 (out none))) k ≡ none
+no-partners k l = ap (λ (x : List ℕ). at x k) (numbers-replicate 32 none) ∙ getD-replicate 32 k none 0 l
+
+pub state-begin : (rows ins outs : List ℕ) (s : Rest) → Sound (s .problem) → s .problem .rows ≡ rows → Heaviest rows ins outs (s .pairing)
+    → s .weight ≡ weight 32 32 (at ins) (at outs) (at (s .pairing .mine)) → s .partners ≡ replicate 32 (out none) → State rows ins outs s 0
+state-begin rows ins outs s so er g ew ep = record {
+  sound = so;
+  heavy = rw er g;
+  weighs = ew;
+  left = λ k b lk lb. ap (λ (x : List ℕ). asks x k b) er ∙ start k b;
+  fixed = fixed-begin rows ins outs (numbers (s .partners)) (numbers-length (s .partners) ∙ ap length ep ∙ length-replicate 32 (out none));
+  unset = λ k _ l. ap (λ (x : List Out). at (numbers x) k) ep ∙ no-partners k l;
+}
+  where
+    start : (k b : ℕ) → asks rows k b ≡ restE rows 0 (takenOf (numbers (s .partners)) 0) k b
+    start k b = all-left rows (numbers (s .partners)) k b
+
+asks-has : (rows : List ℕ) (k b : ℕ) → asks rows k b ≡ has (at rows k) b
+unfolding asks
+asks-has rows k b = refl
+
+-- a heaviest match weighs what `best` does
+heaviest-weight : (rows ins outs : List ℕ) (p : Pairing) → Heaviest rows ins outs p → weight 32 32 (at ins) (at outs) (at (p .mine)) ≡ weightOf ins outs (best rows ins outs)
+unfolding weightOf
+heaviest-weight rows ins outs p g =
+    let b = best-is-best rows ins outs in
+    le-antisymm (list-greatest rows ins outs (best rows ins outs) (b .heaviest) (at (p .mine)) (match-of rows p (g .paired))) (g .greatest (partner (best rows ins outs)) (b .match .match))
+
+pub state-end : (rows ins outs : List ℕ) (s t : Rest) (i : ℕ) → 32 ≤ i → i ≤ 32 → State rows ins outs s 0 → State rows ins outs t i → (r : Found) → r .partners ≡ t .partners → r .weight ≡ s .weight
+    → FirstOf rows ins outs r
+state-end rows ins outs s t i g l h e r ep ew = record {
+  partners = ap numbers ep ∙ fixed-end rows ins outs (numbers (t .partners)) (let z : i ≡ 32 = omega arith in rw z at (e .fixed));
+  weighs = ew ∙ h .weighs ∙ heaviest-weight rows ins outs (s .pairing) (first-heavy rows ins outs s h);
+}
+  where
+    first-heavy : (rows ins outs : List ℕ) (s : Rest) → State rows ins outs s 0 → Heaviest rows ins outs (s .pairing)
+    first-heavy rows ins outs s h = record {
+      paired = paired-over (wants (s .problem .rows)) (wants rows) (s .pairing) (λ x lx l. at-rows x (at (s .pairing .mine) x) lx l (h .heavy .paired .pairs .asked x lx l)) (h .heavy .paired);
+      greatest = greatest-over same (at ins) (at outs) (at (s .pairing .mine)) (h .heavy .greatest);
+    }
+      where
+        same : (k b : ℕ) → k < 32 → b < 32 → asks (s .problem .rows) k b ≡ asks rows k b
+        same k b lk lb = h .left k b lk lb ∙ sym (all-left rows (numbers (s .partners)) k b)
+
+        at-rows : (k b : ℕ) → k < 32 → b < 32 → bit (at (s .problem .rows) k) b ≡ 1 → bit (at rows k) b ≡ 1
+        at-rows k b lk lb o = has-on (at rows k) b (sym (asks-has rows k b) ∙ sym (same k b lk lb) ∙ asks-has (s .problem .rows) k b ∙ on-has (at (s .problem .rows) k) b o)

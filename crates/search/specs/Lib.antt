@@ -1,0 +1,12 @@
+pub mod Pair
+pub mod Stage
+pub mod Reach
+pub mod Steps
+pub mod Augment
+pub mod Loss
+pub mod Exchange
+pub mod Settle
+pub mod Problem
+pub mod ProblemSteps
+pub mod Heaviest
+pub mod First
