@@ -1,11 +1,14 @@
 -- What an accepted size says, and that it is accepted exactly then; and that no two refusals have one number. Assumes nothing.
-use mathlib.Core.Path.{_≡_}
-use mathlib.Core.Bool.{Bool, true, false, _&&_}
+use mathlib.Core.Path.{_≡_, refl, sym, ap, _∙_}
+use mathlib.Core.List.{List, [], _∷_}
+use mathlib.Core.Bool.{true}
 use Prim.Native.Nat.{ℕ, _≤_}
-use lib.Dec.{leb}
+use lib.ListN.{getD}
 use borrow.Author.Tests.{leb-true, le-leb}
 use Rattle.masks.specs.Tests.{and-true, and-both}
-use Rattle.card.specs.Paper.{ports, depth, within, portsFit, cardFits}
+use Rattle.card.specs.declared.Verdict.{Verdict}
+use Rattle.card.specs.declared.Verdict.the-variants.{Accepted, Size, Length, Hold, Arrival, Row, Weight, Record, Log, Back, Buffer, Slot}
+use Rattle.card.specs.Paper.{ports, within, portsFit, numberOf}
 
 pub record Within (most x : ℕ) : Type 0 where
   pub low : 1 ≤ x
@@ -28,3 +31,26 @@ ports-are m n e = let h = and-both _ _ e in record { ins = within-is ports m (h 
 pub are-ports : (m n : ℕ) → Ports m n → portsFit m n ≡ true
 unfolding portsFit
 are-ports m n h = and-true (is-within ports m (h .ins)) (is-within ports n (h .outs))
+
+-- the verdicts by number
+verdicts : List Verdict
+verdicts = Accepted ∷ Size ∷ Length ∷ Hold ∷ Arrival ∷ Row ∷ Weight ∷ Record ∷ Log ∷ Back ∷ Buffer ∷ Slot ∷ []
+
+listed : (v : Verdict) → getD verdicts (numberOf v) Accepted ≡ v
+unfolding verdicts
+listed Accepted = refl
+listed Size = refl
+listed Length = refl
+listed Hold = refl
+listed Arrival = refl
+listed Row = refl
+listed Weight = refl
+listed Record = refl
+listed Log = refl
+listed Back = refl
+listed Buffer = refl
+listed Slot = refl
+
+-- no two verdicts have one number
+pub verdict-unique : (v w : Verdict) → numberOf v ≡ numberOf w → v ≡ w
+verdict-unique v w e = sym (listed v) ∙ ap (λ (n : ℕ). getD verdicts n Accepted) e ∙ listed w

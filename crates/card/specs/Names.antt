@@ -1,11 +1,11 @@
 -- A mask that names ports below n alone: what the code computes, and the same as a bound on the number. Assumes nothing.
-use mathlib.Core.Path.{_≡_, refl, sym, ap, _∙_}
+use mathlib.Core.Path.{_≡_, ap}
 use mathlib.Core.Logic.{_⊎_, inl, inr}
-use mathlib.Core.Bool.{Bool, true, false, not, _||_}
+use mathlib.Core.Bool.{true, not, _||_}
 use Prim.Native.Nat.{ℕ, _-_, _^_, _≤_, _<_}
 use native.Mathlib.Omega.{arith}
 use lib.Dec.{ltb, eqb}
-use borrow.Author.Tests.{eqb-true, eq-eqb, lt-ltb, le-ltb, ltb-true, not-true}
+use borrow.Author.Tests.{eqb-true, eq-eqb, lt-ltb, ltb-true, not-true}
 use Rattle.masks.specs.Paper.{bit, has, Below}
 use Rattle.masks.specs.Tests.{lt-or-ge, or-left, or-right, or-either, same-test, every-at, at-every}
 use Rattle.masks.specs.Laws.{bit-of-zero, bit-high, has-off, off-has, no-bits, high-none}

@@ -1,7 +1,6 @@
 -- Document 01, "The card", and the tests of "What is said no to" that matching, slot and log share. This file is what a reader must believe.
 -- Assumes nothing. `leb`, `ltb` and `eqb` are the tests ≤, < and = on numbers.
 use mathlib.Core.Bool.{Bool, true, false, cond, not, _&&_, _||_}
-use mathlib.Core.List.{List}
 use Prim.Native.Nat.{ℕ}
 use lib.ListN.{getD, replicate}
 use lib.Dec.{leb, ltb, eqb}

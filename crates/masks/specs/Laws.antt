@@ -1,11 +1,11 @@
 -- The laws of `bit`. Nearly all follow from two: digit 0 is the rest by 2, and digit k + 1 of x is digit k of x / 2. Assumes nothing.
-use mathlib.Core.Path.{_≡_, refl, sym, ap, ap₂, _∙_}
+use mathlib.Core.Path.{_≡_, refl, sym, ap, _∙_}
 use Prim.Native.Nat.{ℕ, zero, suc, _+_, _-_, _*_, _/_, _%_, _^_, _≤_, _<_, min, max}
 use native.Mathlib.Nat.{mod-lt, div-one, pow-suc, one-mul, div-self, div-eq-of-lt, lt-of-lt-of-le}
 use native.Mathlib.Numerals.{one-add}
 use native.Mathlib.Omega.{arith}
 use native.Mathlib.Decide.{decLt}
-use mathlib.Core.Bool.{Bool, true, false}
+use mathlib.Core.Bool.{true, false}
 use borrow.Author.Tests.{eqb-true, eqb-false, eq-eqb, ne-eqb}
 use lib.Dec.{lit<, eqb}
 use lib.Pow.{pow-lt, pow-pos, pow-mono, shr-shr, shl-exact, ones-lt}

@@ -4,20 +4,19 @@ use mathlib.Core.Path.{_≡_, refl, sym, ap, _∙_}
 use mathlib.Core.Logic.{_⊎_, inl, inr}
 use mathlib.Core.Bool.{Bool, true, false, not, _&&_, _||_}
 use mathlib.Core.List.{List}
-use Prim.Native.Nat.{ℕ, zero, suc, _+_, _*_, _^_, _≤_, _<_}
-use native.Mathlib.Nat.{mul-le-mul-right}
+use Prim.Native.Nat.{ℕ, suc, _+_, _*_, _≤_, _<_}
 use native.Mathlib.Omega.{arith}
 use lib.ListN.{length}
 use lib.Dec.{leb, ltb, eqb}
 use borrow.Author.Tests.{leb-true, ltb-true, eqb-true, le-leb, lt-ltb, eq-eqb, not-true}
-use Rattle.masks.specs.Paper.{bit, has, keep, every, some, sum}
-use Rattle.masks.specs.Tests.{cases, lt-or-ge, clash, and-true, and-both, or-left, or-right, or-either, every-at, at-every, some-of, some-at}
+use Rattle.masks.specs.Paper.{bit, keep, every}
+use Rattle.masks.specs.Tests.{cases, lt-or-ge, clash, and-true, and-both, or-left, or-right, or-either, every-at, at-every, some-at}
 use Rattle.masks.specs.Sum.{sum-le, sum-at}
 use Rattle.masks.specs.Laws.{bit-of-zero, has-on, no-bits}
 use Rattle.card.specs.Paper.{ports, unless, portsFit, namesBelow}
 use Rattle.card.specs.Limits.{Ports, ports-are, are-ports}
 use Rattle.card.specs.Names.{names-at, at-names}
-use Rattle.matches.specs.Paper.{at, asks, mask, count, R, C, tableIn, tableOut, wants, tableRows, inAsks, outAsks, maxWeight, rowFits, rowsFit, weightFits, weightsFit, tableRefusal, weightRefusal}
+use Rattle.matches.specs.Paper.{at, asks, mask, count, R, C, tableIn, tableOut, wants, tableRows, inAsks, outAsks, maxWeight, rowsFit, weightFits, weightsFit, tableRefusal, weightRefusal}
 use Rattle.matches.specs.Lists.{getD-tab}
 use Rattle.matches.specs.Table.{bit-mask, mask-lt, wants-in, wants-out, wants-at, table-asks, table-in, table-out}
 

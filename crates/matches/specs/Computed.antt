@@ -6,14 +6,14 @@ use mathlib.Core.List.{List, [], _∷_}
 use Prim.Native.Nat.{ℕ, zero, suc, _+_, _≤_, _<_}
 use native.Mathlib.Nat.{suc-inj, eq-or-lt-of-le, le-antisymm}
 use native.Mathlib.Omega.{arith}
-use lib.ListN.{length, getD}
+use lib.ListN.{length}
 use lib.Dec.{ltb, eqb}
 use borrow.Author.Tests.{ltb-true, ltb-false, eqb-true, eq-eqb}
-use Rattle.masks.specs.Paper.{keep, sum}
+use Rattle.masks.specs.Paper.{sum}
 use Rattle.masks.specs.Tests.{clash, and-true, and-both}
 use Rattle.masks.specs.Sum.{sum-head}
 use Rattle.card.specs.Paper.{ports, none}
-use Rattle.matches.specs.Paper.{at, member, Match, asks, partner, IsMatch, weightOf, First, Best, Part, gain, add, heavier, pick, bestFrom, best}
+use Rattle.matches.specs.Paper.{at, member, asks, partner, IsMatch, weightOf, First, Best, Part, gain, add, heavier, pick, bestFrom, best}
 use Rattle.matches.specs.Lists.{partner-in}
 use Rattle.matches.specs.Order.{first-antisym}
 

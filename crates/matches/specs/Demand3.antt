@@ -4,8 +4,8 @@
 --   replacing weights by ranks changes no pair             `ranks-for-weights`, `form-for-weights`
 --   ranking the ranks gives them again                     `ranks-of-ranks`, `form-of-form`
 -- Assumes nothing.
-use mathlib.Core.Path.{_≡_, refl, sym, ap, ap₂, _∙_}
-use mathlib.Core.Bool.{Bool, true, false}
+use mathlib.Core.Path.{_≡_, refl, sym, ap, _∙_}
+use mathlib.Core.Bool.{Bool, true}
 use mathlib.Core.List.{List}
 use Prim.Native.Nat.{ℕ, zero, suc, _+_, _≤_, _<_}
 use native.Mathlib.Nat.{le-antisymm}
@@ -14,14 +14,14 @@ use lib.Dec.{ltb}
 use borrow.Author.Tests.{ltb-false, le-ltb}
 use Rattle.masks.specs.Tests.{some-of}
 use Rattle.card.specs.Paper.{ports}
-use Rattle.matches.specs.Paper.{at, tab, Match, asks, partner, IsMatch, sizeOf, weightOf, First, Best, best, tableIn, tableOut, tableRows}
-use Rattle.matches.specs.Paper.{inAsks, outAsks, rank, inRanks, outRanks, tableRefusal, weightRefusal, Answer, answer, tableMatch, weightMatch, RankForm, ranked, rankForm}
+use Rattle.matches.specs.Paper.{at, tab, asks, partner, IsMatch, sizeOf, weightOf, First, Best, best, tableIn, tableOut, tableRows}
+use Rattle.matches.specs.Paper.{inAsks, outAsks, rank, inRanks, outRanks, tableRefusal, weightRefusal, answer, tableMatch, weightMatch, RankForm, ranked, rankForm}
 use Rattle.matches.specs.Sides.{swap, Greatest}
-use Rattle.matches.specs.Heaviest.{Asks, Worthy}
+use Rattle.matches.specs.Heaviest.{Worthy}
 use Rattle.matches.specs.Decide.{Follows, rank-only, greatest-all}
 use Rattle.matches.specs.Lists.{getD-tab, listOf, list-match, list-total}
 use Rattle.matches.specs.Computed.{best-is-best, only}
-use Rattle.matches.specs.Accepted.{TableOk, table-ok, Weighed, WeightsOk, weights-ok, ok-weights, table-problem}
+use Rattle.matches.specs.Accepted.{table-ok, Weighed, weights-ok, ok-weights, table-problem}
 use Rattle.matches.specs.Ranks.{ranks-alike, in-ranks-again, out-ranks-again, rank-form-ok, rank-form-again}
 
 -- ---- lists and functions: the heaviest list is a heaviest match

@@ -1,17 +1,17 @@
 -- "The weight of a port without a request is ignored": it changes nothing in an answer, its refusal among them. Assumes nothing.
-use mathlib.Core.Path.{_≡_, refl, sym, ap, ap₂, _∙_}
+use mathlib.Core.Path.{_≡_, refl, ap, ap₂, _∙_}
 use mathlib.Core.Logic.{_⊎_, inl, inr}
 use mathlib.Core.Bool.{Bool, true, false, _&&_}
 use mathlib.Core.List.{List}
-use Prim.Native.Nat.{ℕ, zero, suc, _+_, _≤_, _<_}
+use Prim.Native.Nat.{ℕ, zero, suc, _+_, _<_}
 use native.Mathlib.Omega.{arith}
 use lib.Dec.{ltb}
 use borrow.Author.Tests.{ltb-true}
-use Rattle.masks.specs.Paper.{keep, every}
+use Rattle.masks.specs.Paper.{every}
 use Rattle.masks.specs.Tests.{cases, keep-cong, every-cong, some-of}
 use Rattle.masks.specs.Sum.{sum-cong}
 use Rattle.card.specs.Paper.{ports, unless, portsFit}
-use Rattle.matches.specs.Paper.{at, asks, partner, IsMatch, sizeOf, weightOf, Best, best, inAsks, outAsks, weightFits, rowsFit, weightsFit, weightRefusal, Answer, answer, weightMatch}
+use Rattle.matches.specs.Paper.{at, asks, partner, IsMatch, sizeOf, weightOf, Best, best, inAsks, outAsks, weightFits, rowsFit, weightsFit, weightRefusal, answer, weightMatch}
 use Rattle.matches.specs.Computed.{best-is-best, only}
 
 -- two lists of weights that agree at the ports that ask

@@ -2,18 +2,18 @@
 use mathlib.Core.Path.{_≡_, refl, sym, ap, ap₂, _∙_}
 use mathlib.Core.Logic.{_⊎_, inl, inr}
 use mathlib.Core.Bool.{Bool, true, false, cond}
-use mathlib.Core.List.{List, [], _∷_}
-use Prim.Native.Nat.{ℕ, zero, suc, _+_, _≤_, _<_, suc-le-suc}
+use mathlib.Core.List.{List, _∷_}
+use Prim.Native.Nat.{ℕ, zero, suc, _≤_, _<_, suc-le-suc}
 use native.Mathlib.Nat.{le-of-suc-le-suc}
 use native.Mathlib.Omega.{arith}
 use lib.ListN.{length, getD, List·getD-eq-default}
 use lib.Dec.{ltb}
-use borrow.Author.Tests.{ltb-true, ltb-false, le-ltb}
-use Rattle.masks.specs.Paper.{keep, sum}
+use borrow.Author.Tests.{ltb-true, ltb-false}
+use Rattle.masks.specs.Paper.{keep}
 use Rattle.masks.specs.Tests.{lt-or-ge, keep-ge}
 use Rattle.masks.specs.Sum.{sum-cong}
 use Rattle.card.specs.Paper.{ports, none}
-use Rattle.matches.specs.Paper.{at, tab, Match, total, size, weight, asks, partner, IsMatch, sizeOf, weightOf}
+use Rattle.matches.specs.Paper.{at, tab, Match, total, asks, partner, IsMatch}
 
 pub length-tab : (n : ℕ) (f : ℕ → ℕ) → length (tab n f) ≡ n
 unfolding tab

@@ -1,19 +1,18 @@
 -- Ranks keep the order of the weights of the ports that ask; ranking the ranks gives them again; a rank form of accepted weights is accepted.
 -- Assumes nothing.
 use mathlib.Core.Path.{_≡_, refl, sym, ap, ap₂, subst, _∙_}
-use mathlib.Core.Logic.{_⊎_, inl, inr}
 use mathlib.Core.Bool.{Bool, true, false, cond, _||_}
 use mathlib.Core.List.{List, [], _∷_, map}
 use Prim.Native.Nat.{ℕ, zero, suc, _+_, _≤_, _<_, suc-le-suc}
 use native.Mathlib.Nat.{le-of-suc-le-suc}
 use native.Mathlib.Omega.{arith}
-use lib.ListN.{length, getD}
+use lib.ListN.{length}
 use lib.Dec.{ltb, eqb}
-use borrow.Author.Tests.{ltb-true, ltb-false, lt-ltb, le-ltb, eqb-true, eqb-false, eq-eqb, ne-eqb}
+use borrow.Author.Tests.{ltb-true, ltb-false, lt-ltb, le-ltb, eqb-true, eq-eqb, ne-eqb}
 use Rattle.masks.specs.Paper.{keep}
 use Rattle.masks.specs.Tests.{clash, or-left, or-right, keep-true}
 use Rattle.card.specs.Paper.{ports}
-use Rattle.matches.specs.Paper.{at, tab, member, those, distinct, smaller, rank, inAsks, outAsks, inRanks, outRanks, weightRefusal, RankForm, ranked, rankForm}
+use Rattle.matches.specs.Paper.{at, tab, member, those, distinct, smaller, rank, inAsks, outAsks, inRanks, outRanks, weightRefusal, ranked, rankForm}
 use Rattle.matches.specs.Lists.{getD-tab, tab-cong}
 use Rattle.matches.specs.Accepted.{Weighed, WeightsOk, weights-ok, ok-weights}
 

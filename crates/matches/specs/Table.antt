@@ -1,18 +1,17 @@
 -- The requests and port weights that a table of counts and a hold come to, read back. Assumes nothing.
-use mathlib.Core.Path.{_≡_, refl, sym, ap, _∙_}
-use mathlib.Core.Logic.{_⊎_, inl, inr}
-use mathlib.Core.Bool.{Bool, true, false, not, _&&_, and-false}
+use mathlib.Core.Path.{_≡_, sym, ap, _∙_}
+use mathlib.Core.Bool.{Bool, true, false, _&&_, and-false}
 use mathlib.Core.List.{List}
 use Prim.Native.Nat.{ℕ, zero, suc, _+_, _*_, _/_, _%_, _^_, _≤_, _<_}
 use native.Mathlib.Omega.{arith}
 use lib.Dec.{ltb, leb·suc-suc}
 use borrow.Author.Tests.{lt-ltb, le-ltb, ltb-true}
 use Rattle.masks.specs.Paper.{bit, has, keep}
-use Rattle.masks.specs.Tests.{cases, lt-or-ge, and-both, keep-true}
-use Rattle.masks.specs.Laws.{bit-zero, bit-suc, bit-of-zero, has-on, has-off, on-has, off-has}
+use Rattle.masks.specs.Tests.{and-both, keep-true}
+use Rattle.masks.specs.Laws.{bit-zero, bit-suc, bit-of-zero, on-has, off-has}
 use Rattle.card.specs.Paper.{ports}
-use Rattle.matches.specs.Paper.{at, tab, asks, mask, count, R, C, tableIn, tableOut, wants, tableRows}
-use Rattle.matches.specs.Lists.{getD-tab, getD-tab-out}
+use Rattle.matches.specs.Paper.{at, asks, mask, count, R, C, tableIn, tableOut, wants, tableRows}
+use Rattle.matches.specs.Lists.{getD-tab}
 
 -- ---- a number given bit by bit
 

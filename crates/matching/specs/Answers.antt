@@ -1,9 +1,8 @@
 -- The answers of the three matching functions as document 01's, and that an accepted one fits its field. Assumes nothing.
-use mathlib.Core.Path.{_≡_, refl, sym, ap, ap₂, _∙_}
-use mathlib.Core.Logic.{_⊎_, inl, inr}
-use mathlib.Core.Bool.{Bool, true, false}
+use mathlib.Core.Path.{_≡_, refl, ap}
+use mathlib.Core.Bool.{true}
 use mathlib.Core.List.{List, [], _∷_}
-use Prim.Native.Nat.{ℕ, zero, suc, _+_, _*_, _≤_, _<_}
+use Prim.Native.Nat.{ℕ, zero, suc, _+_, _≤_, _<_}
 use native.Mathlib.Omega.{arith}
 use lib.ListN.{length, getD, replicate}
 use lib.Dec.{ltb}
@@ -14,10 +13,10 @@ use Rattle.masks.specs.Sum.{sum-le, sum-cong}
 use Rattle.card.specs.Paper.{ports, none, out, numberOf}
 use Rattle.card.specs.declared.Out.{Out}
 use Rattle.card.specs.declared.Verdict.{Verdict}
-use Rattle.matches.specs.Paper.{at, tab, asks, partner, IsMatch, sizeOf, weightOf, best, inAsks, outAsks, maxWeight, rank, inRanks, outRanks, weightRefusal, answer, ranked, weightMatch, tableMatch, rankForm}
+use Rattle.matches.specs.Paper.{at, tab, asks, partner, sizeOf, weightOf, best, inAsks, outAsks, maxWeight, rank, inRanks, outRanks, weightRefusal, answer, ranked}
 use Rattle.matches.specs.Paper as paper
 use Rattle.matches.specs.Computed.{best-is-best}
-use Rattle.matches.specs.Accepted.{WeightsOk, weights-ok}
+use Rattle.matches.specs.Accepted.{weights-ok}
 use Rattle.search.specs.First.{numbers}
 use Rattle.matching.specs.declared.Answer.{Answer}
 use Rattle.matching.specs.declared.RankForm.{RankForm}

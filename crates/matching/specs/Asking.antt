@@ -1,17 +1,16 @@
 -- The ports that have a request, as a mask; the weights of one side, tested by such a mask; and what a refusal's test tells. Assumes nothing.
 use mathlib.Core.Path.{_≡_, sym, ap, ap₂, _∙_}
-use mathlib.Core.Logic.{_⊎_, inl, inr, _≢_}
+use mathlib.Core.Logic.{_⊎_, inl, inr}
 use mathlib.Core.Bool.{Bool, true, false, not, _&&_, _||_}
 use mathlib.Core.List.{List}
-use Prim.Native.Nat.{ℕ, _+_, _*_, _^_, _≤_, _<_, max}
+use Prim.Native.Nat.{ℕ, _+_, _*_, _≤_, _<_, max}
 use native.Mathlib.Nat.{mul-le-mul}
 use native.Mathlib.Numerals.{add-one}
 use native.Mathlib.Omega.{arith}
-use lib.Dec.{eqb}
 use borrow.Author.Tests.{not-true, not-false}
-use Rattle.masks.specs.Paper.{bit, has, every, some, With}
-use Rattle.masks.specs.Tests.{cases, clash, eq-or-ne, lt-or-ge, off, or-left, or-right, or-false, some-of, some-at, every-cong}
-use Rattle.masks.specs.Laws.{bit-lt, bit-of-zero, has-on, has-off, on-has, off-has, no-bits}
+use Rattle.masks.specs.Paper.{bit, has, every, some}
+use Rattle.masks.specs.Tests.{cases, or-left, or-right, or-false, every-cong}
+use Rattle.masks.specs.Laws.{bit-lt, bit-of-zero, has-on, has-off, on-has, off-has}
 use Rattle.card.specs.Paper.{ports, portsFit}
 use Rattle.card.specs.Limits.{ports-are}
 use Rattle.matches.specs.Paper.{at, asks, inAsks, outAsks, weightFits, weightsFit}

@@ -1,11 +1,11 @@
 -- The way back along a trail: every one on it takes what the one after it gave up. Assumes nothing.
 use mathlib.Core.Path.{_≡_, refl, sym, ap, _∙_}
-use Prim.Native.Nat.{ℕ, _+_, _-_, _≤_, _<_}
+use Prim.Native.Nat.{ℕ, _+_, _≤_, _<_}
 use native.Mathlib.Omega.{arith}
 use native.Mathlib.Decide.{ℕ-discrete}
 use Rattle.matches.specs.Paper.{at}
 use Rattle.search.specs.declared.pairing.Pairing.{Pairing}
-use Rattle.search.specs.Pair.{Put, Paired, Linked, Link}
+use Rattle.search.specs.Pair.{Paired, Linked, Link}
 use Rattle.search.specs.Stage.{Trail}
 
 -- the trail up to h, where the free j is requested; its first has nothing

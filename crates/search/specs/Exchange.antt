@@ -1,8 +1,8 @@
 -- One gives its place to another, which reaches it along a trail. Assumes nothing.
-use mathlib.Core.Path.{_≡_, refl, sym, ap, _∙_}
+use mathlib.Core.Path.{_≡_, refl, ap}
 use Prim.Native.Nat.{ℕ, _+_, _≤_, _<_}
 use native.Mathlib.Omega.{arith}
-use native.Mathlib.Decide.{ℕ-discrete, decLt}
+use native.Mathlib.Decide.{ℕ-discrete}
 use Rattle.matches.specs.Paper.{at}
 use Rattle.search.specs.declared.pairing.Pairing.{Pairing}
 use Rattle.search.specs.Pair.{Paired, Unlinked, Unlink}

@@ -6,13 +6,12 @@ use mathlib.Core.List.{List, [], _∷_, map}
 use Prim.Native.Nat.{ℕ, zero, suc, _+_, _-_, _≤_, _<_, min}
 use native.Mathlib.Nat.{le-antisymm}
 use native.Mathlib.Omega.{arith}
-use native.Mathlib.Numerals.{add-one}
-use lib.ListN.{length, getD, set, replicate, length-replicate, getD-replicate}
+use lib.ListN.{length, set, replicate, length-replicate, getD-replicate}
 use lib.Seq.{getD-set-other}
 use lib.Dec.{leb, ltb, eqb}
-use borrow.Author.Tests.{leb-true, le-leb, lt-leb, eq-eqb, ne-eqb}
-use Rattle.masks.specs.Paper.{bit, has, keep, sum, Without, Below, Lowest}
-use Rattle.masks.specs.Tests.{cases, lt-or-ge, eq-or-ne, clash, off, and-true, and-both, keep-lt}
+use borrow.Author.Tests.{le-leb, lt-leb, eq-eqb, ne-eqb}
+use Rattle.masks.specs.Paper.{bit, has, keep, Without, Below, Lowest}
+use Rattle.masks.specs.Tests.{lt-or-ge, eq-or-ne, clash, and-both, keep-lt}
 use Rattle.masks.specs.Sum.{sum-cong}
 use Rattle.masks.specs.Laws.{bit-lt, bit-of-zero, has-on, on-has, off-has}
 use Rattle.card.specs.Paper.{none, out}
@@ -21,15 +20,15 @@ use Rattle.matches.specs.Paper.{at, member, asks, Match, total, weight, partner
 use Rattle.matches.specs.Sides.{Greatest}
 use Rattle.matches.specs.Computed.{best-is-best}
 use Rattle.matches.specs.Demand3.{list-greatest}
-use Rattle.matches.specs.Flip.{put, put-same, put-other, put-match, drop-match, total-join, total-drop}
+use Rattle.matches.specs.Flip.{put, put-same, put-other, put-match, total-join, total-drop}
 use Rattle.matches.specs.Rest.{canTake, restE, rest-weight, option, choose-output, choose-none, takenOf, taken-set-output, taken-none, Fixed, fixed-begin, fixed-end, fixed-output, fixed-kept}
 use Rattle.search.specs.declared.pairing.Pairing.{Pairing}
 use Rattle.search.specs.declared.problem.Problem.{Problem}
 use Rattle.search.specs.declared.choice.Rest.{Rest}
 use Rattle.search.specs.declared.choice.Found.{Found}
-use Rattle.search.specs.Pair.{Pairs, Paired, Unlink}
+use Rattle.search.specs.Pair.{Paired, Unlink}
 use Rattle.search.specs.Stage.{wants}
-use Rattle.search.specs.Problem.{Sound, Struck, WithoutPair}
+use Rattle.search.specs.Problem.{Sound, WithoutPair}
 use Rattle.search.specs.Heaviest.{Heaviest, match-of}
 
 -- ---- partners as outputs and as numbers
@@ -45,6 +44,16 @@ numbers-set (o ∷ l) (suc i) j = ap (λ (t : List ℕ). o .0 ∷ t) (numbers-se
 pub numbers-length : (l : List Out) → length (numbers l) ≡ length l
 numbers-length [] = refl
 numbers-length (o ∷ l) = ap suc (numbers-length l)
+
+-- nothing is lost
+pub numbers-unique : (l k : List Out) → numbers l ≡ numbers k → l ≡ k
+numbers-unique [] [] e = refl
+numbers-unique [] (o ∷ k) e = let z : _≡_ {A = ℕ} 0 1 = cc in absurd (omega arith)
+numbers-unique (o ∷ l) [] e = let z : _≡_ {A = ℕ} 0 1 = cc in absurd (omega arith)
+numbers-unique (o ∷ l) (q ∷ k) e =
+    let h : o .0 ≡ q .0 = cc in
+    let t : numbers l ≡ numbers k = cc in
+    ap₂ (λ (j : ℕ) (r : List Out). out j ∷ r) h (numbers-unique l k t)
 
 -- ---- what is left
 

@@ -1,25 +1,24 @@
 -- From two settled sides to a heaviest match, and its weight as a loop adds it up. Assumes nothing.
-use mathlib.Core.Path.{_≡_, refl, sym, ap, _∙_}
+use mathlib.Core.Path.{_≡_, sym, ap, _∙_}
 use mathlib.Core.Logic.{_⊎_, inl, inr}
-use mathlib.Core.Bool.{Bool, true, false}
+use mathlib.Core.Bool.{Bool}
 use mathlib.Core.List.{List}
-use Prim.Native.Nat.{ℕ, _+_, _*_, _≤_, _<_}
+use Prim.Native.Nat.{ℕ, _+_, _≤_, _<_}
 use native.Mathlib.Omega.{arith}
 use lib.Dec.{ltb, eqb}
-use Rattle.masks.specs.Paper.{bit, has, keep, sum}
-use Rattle.masks.specs.Tests.{lt-or-ge, keep-lt, keep-ge, keep-bound}
-use Rattle.masks.specs.Sum.{sum-mono, sum-le, sum-step}
-use Rattle.masks.specs.Laws.{has-on, on-has}
-use Rattle.matches.specs.Paper.{at, asks, Match, total, weight}
+use Rattle.masks.specs.Paper.{keep}
+use Rattle.masks.specs.Tests.{lt-or-ge, keep-lt, keep-ge}
+use Rattle.masks.specs.Sum.{sum-mono}
+use Rattle.masks.specs.Laws.{on-has}
+use Rattle.matches.specs.Paper.{at, asks, Match, weight}
 use Rattle.matches.specs.Owner.{owner, owner-lt}
-use Rattle.matches.specs.Certificate.{inW, outW, parts, SetFor, certified, sets-best}
-use Rattle.matches.specs.Sides.{swap, owner-match, out-is-in, Greatest}
+use Rattle.matches.specs.Certificate.{inW, parts, sets-best}
+use Rattle.matches.specs.Sides.{owner-match, out-is-in, Greatest}
 use Rattle.search.specs.declared.pairing.Pairing.{Pairing}
-use Rattle.search.specs.declared.problem.Problem.{Problem}
 use Rattle.search.specs.Pair.{Pairs, Paired, Swapped}
 use Rattle.search.specs.Stage.{wants}
-use Rattle.search.specs.Settle.{Good, Uses, Settled}
-use Rattle.search.specs.Problem.{Columns, Sound}
+use Rattle.search.specs.Settle.{Settled}
+use Rattle.search.specs.Problem.{Columns}
 
 -- a pairing of the requests that no match outweighs
 pub record Heaviest (rows ins outs : List ℕ) (r : Pairing) : Type 0 where

@@ -1,11 +1,10 @@
 -- Pairings: what one store changes, and what linking and unlinking keep. Assumes nothing.
-use mathlib.Core.Path.{_≡_, refl, sym, ap, _∙_}
-use mathlib.Core.List.{List}
-use Prim.Native.Nat.{ℕ, _+_, _-_, _^_, _≤_, _<_}
-use lib.ListN.{getD, replicate, getD-replicate}
+use mathlib.Core.Path.{_≡_, sym, ap, _∙_}
+use Prim.Native.Nat.{ℕ, _-_, _^_, _≤_, _<_}
+use lib.ListN.{replicate, getD-replicate}
 use native.Mathlib.Omega.{arith}
-use native.Mathlib.Decide.{ℕ-discrete, decLt}
-use Rattle.masks.specs.Paper.{bit, With, Without, Below}
+use native.Mathlib.Decide.{ℕ-discrete}
+use Rattle.masks.specs.Paper.{bit, With, Without}
 use Rattle.masks.specs.Laws.{below-all}
 use Rattle.matches.specs.Paper.{at}
 use Rattle.search.specs.declared.pairing.Pairing.{Pairing}

@@ -2,11 +2,11 @@
 use mathlib.Core.Path.{_≡_}
 use mathlib.Core.List.{List}
 use Prim.Native.Nat.{ℕ, _+_, _≤_, _<_}
-use Rattle.masks.specs.Paper.{bit, With}
+use Rattle.masks.specs.Paper.{With}
 use Rattle.matches.specs.Paper.{at}
 use Rattle.search.specs.declared.reach.Search.{Search}
 use Rattle.search.specs.declared.pairing.Pairing.{Pairing}
-use Rattle.search.specs.Pair.{Put, Paired}
+use Rattle.search.specs.Pair.{Put}
 use Rattle.search.specs.Stage.{wants, Closed, Stage}
 
 abbrev pub StageOf : List ℕ → Pairing → Search → Type 0

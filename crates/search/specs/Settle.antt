@@ -1,6 +1,6 @@
 -- What the settling promises. Assumes nothing.
 use mathlib.Core.Path.{_≡_, refl, sym, ap, _∙_}
-use mathlib.Core.Bool.{Bool, true, false}
+use mathlib.Core.Bool.{true, false}
 use mathlib.Core.Logic.{_⊎_, inl, inr}
 use mathlib.Core.List.{List}
 use Prim.Native.Nat.{ℕ, _+_, _≤_, _<_, min}
@@ -8,7 +8,7 @@ use native.Mathlib.Omega.{arith}
 use native.Mathlib.Decide.{ℕ-discrete}
 use lib.Dec.{eqb}
 use Rattle.masks.specs.Paper.{bit, has, Without}
-use Rattle.masks.specs.Laws.{bit-lt, bit-of-zero, has-on, on-has, off-has}
+use Rattle.masks.specs.Laws.{bit-of-zero, has-on, on-has, off-has}
 use Rattle.matches.specs.Paper.{at, asks}
 use Rattle.matches.specs.Certificate.{SetFor}
 use Rattle.matches.specs.Heaviest.{closed-alone}

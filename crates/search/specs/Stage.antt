@@ -1,9 +1,9 @@
 -- Breadth first from one of mine without a partner: what holds at every stage, and that each step keeps it. Assumes nothing.
-use mathlib.Core.Path.{_≡_, refl, sym, ap, _∙_}
+use mathlib.Core.Path.{_≡_, sym, ap, _∙_}
 use mathlib.Core.List.{List}
-use Prim.Native.Nat.{ℕ, zero, suc, _+_, _-_, _≤_, _<_}
+use Prim.Native.Nat.{ℕ, zero, suc, _+_, _≤_, _<_}
 use native.Mathlib.Omega.{arith}
-use native.Mathlib.Decide.{ℕ-discrete, decLt}
+use native.Mathlib.Decide.{ℕ-discrete}
 use Rattle.masks.specs.Paper.{bit, sum, With}
 use Rattle.masks.specs.Sum.{sum-zero}
 use Rattle.masks.specs.Laws.{bit-lt, bit-of-zero}

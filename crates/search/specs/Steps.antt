@@ -1,16 +1,16 @@
 -- What a step of the search does, from what its parts promise. Assumes nothing.
-use mathlib.Core.Path.{_≡_, refl, sym, ap, _∙_}
+use mathlib.Core.Path.{_≡_, sym, ap, _∙_}
 use mathlib.Core.List.{List}
 use Prim.Native.Nat.{ℕ, _+_, _-_, _≤_, _<_, min}
 use native.Mathlib.Omega.{arith}
 use native.Mathlib.Decide.{decLt}
-use Rattle.masks.specs.Paper.{bit, With, Lowest}
+use Rattle.masks.specs.Paper.{bit, Lowest}
 use Rattle.masks.specs.Laws.{bit-lt, bit-of-zero}
 use Rattle.matches.specs.Paper.{at}
 use Rattle.search.specs.declared.reach.Search.{Search}
 use Rattle.search.specs.declared.pairing.Pairing.{Pairing}
 use Rattle.search.specs.Pair.{Paired}
-use Rattle.search.specs.Stage.{wants, Stage, stage-begin, stage-pass, stage-new, stage-push, stage-room, stage-closed, count-lt}
+use Rattle.search.specs.Stage.{wants, stage-begin, stage-pass, stage-new, stage-push, stage-room, stage-closed, count-lt}
 use Rattle.search.specs.Reach.{StageOf, Begun, Passed, Pushed, Stopped, Stepped, Searching, Reached}
 
 module _ (rows : List ℕ) (p : Pairing) (s : Search) (st : StageOf rows p s) (l : s .at < s .len) (x w fr : ℕ)

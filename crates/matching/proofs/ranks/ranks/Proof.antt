@@ -1,6 +1,6 @@
 -- `matching::ranks::ranks` meets its contract. The invariant: the ranks of the ports passed stand in their places. Assumes nothing.
 use Prim.Native.Nat.{_≤_, _-_}
-use mathlib.Core.Path.{_≡_, refl, _∙_}
+use mathlib.Core.Path.{_≡_, _∙_}
 use borrow.Author.Needs.{needs}
 use Rattle.masks.specs.Paper.{has}
 use Rattle.matches.specs.Paper.{at, rank}
