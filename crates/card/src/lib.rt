@@ -115,7 +115,7 @@ fn within(most: u32, x: u32) -> bool
 }
 
 // Both tests. As a call it leaves no branch behind, so that a loop's promise stays one equation.
-fn also(a: bool, b: bool) -> bool
+pub fn also(a: bool, b: bool) -> bool
     ensures { λ r. ⌜ r ≡ (a && b) ⌝ }
 {
     a && b

@@ -1,7 +1,6 @@
 // The refusals of the three matching functions, in document 01's order: table match 1, 2, 3; weighted match and rank form 1, 5, 6.
 use card::Verdict;
 ghost use mathlib.Core.Path.{_≡_};
-ghost use mathlib.Core.Bool.{_&&_};
 ghost use Prim.Native.Nat.{ℕ, _<_};
 ghost use Rattle.masks.specs.Paper.{has};
 ghost use Rattle.card.specs.Paper.{numberOf};
@@ -62,7 +61,7 @@ fn rows_fit(m: u32, n: u32, rows: [u32; 32]) -> bool
     let mut ok = true;
     for i in 0..32u32 {
         let k = i as usize;
-        ok = also(ok, row_fits(m, n, i, rows[k]));
+        ok = card::also(ok, row_fits(m, n, i, rows[k]));
     }
     ok
 }
@@ -78,7 +77,7 @@ fn row_fits(m: u32, n: u32, i: u32, row: u32) -> bool
 fn weights_fit(rows: [u32; 32], inputs: [u32; 32], outputs: [u32; 32]) -> bool
     ensures { λ r. ⌜ r ≡ weightsFit rows inputs outputs ⌝ }
 {
-    also(
+    card::also(
         side_fits(search::asking(rows), inputs),
         side_fits(asking_outs(rows), outputs),
     )
@@ -91,7 +90,7 @@ fn side_fits(asking: u32, weights: [u32; 32]) -> bool
     let mut ok = true;
     for i in 0..32u32 {
         let k = i as usize;
-        ok = also(ok, weight_fits(masks::has(asking, i), weights[k]));
+        ok = card::also(ok, weight_fits(masks::has(asking, i), weights[k]));
     }
     ok
 }
@@ -101,11 +100,4 @@ fn weight_fits(asking: bool, weight: u32) -> bool
     ensures { λ r. ⌜ r ≡ weightFits asking weight ⌝ }
 {
     !asking || (1 <= weight && weight <= MOST)
-}
-
-// Both tests. As a call it leaves no branch behind, so that a loop's promise stays one equation.
-fn also(a: bool, b: bool) -> bool
-    ensures { λ r. ⌜ r ≡ (a && b) ⌝ }
-{
-    a && b
 }

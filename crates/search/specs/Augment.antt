@@ -22,20 +22,16 @@ pub record Ready (E : ℕ → ℕ → ℕ) (p : Pairing) (q f : ℕ → ℕ) (h 
 abbrev pub any : ℕ → ℕ → ℕ
 any x j = 1
 
+pub paired-any : (E : ℕ → ℕ → ℕ) (p : Pairing) → Paired E p → Paired any p
+paired-any E p h = record { pairs = record { asked = λ x lx l. refl; back = h .pairs .back; forth = h .pairs .forth }; idle = h .idle; vacant = h .vacant }
+
+pub trail-any : (E : ℕ → ℕ → ℕ) (m q f : ℕ → ℕ) (n : ℕ) → Trail E m q f n → Trail any m q f n
+trail-any E m q f n t = record { within = t .within; apart = t .apart; less = t .less; has = t .has; asked = λ k l lk. refl }
+
 pub ready-any : (E : ℕ → ℕ → ℕ) (p : Pairing) (q f : ℕ → ℕ) (h j : ℕ) → Ready E p q f h j → Ready any p q f h j
 ready-any E p q f h j r = record {
-  paired = record {
-    pairs = record { asked = λ x lx l. refl; back = r .paired .pairs .back; forth = r .paired .pairs .forth };
-    idle = r .paired .idle;
-    vacant = r .paired .vacant;
-  };
-  trail = record {
-    within = r .trail .within;
-    apart = r .trail .apart;
-    less = r .trail .less;
-    has = r .trail .has;
-    asked = λ k l lk. refl;
-  };
+  paired = paired-any E p (r .paired);
+  trail = trail-any E (at (p .mine)) q f (h + 1) (r .trail);
   room = r .room;
   out = r .out;
   asked = refl;

@@ -7,7 +7,7 @@ use Rattle.matches.specs.Paper.{at}
 use Rattle.search.specs.declared.pairing.Pairing.{Pairing}
 use Rattle.search.specs.Pair.{Paired, Unlinked, Unlink}
 use Rattle.search.specs.Stage.{Trail}
-use Rattle.search.specs.Augment.{any, Ready, Augmented, trail-cut}
+use Rattle.search.specs.Augment.{any, paired-any, trail-any, Ready, Augmented, trail-cut}
 use Rattle.search.specs.Loss.{loss, loss-augmented, loss-unlinked}
 
 -- the trail's one at h is to give its place to the first
@@ -20,18 +20,8 @@ pub record Giving (E : ℕ → ℕ → ℕ) (p : Pairing) (q f : ℕ → ℕ) (h
 
 pub giving-any : (E : ℕ → ℕ → ℕ) (p : Pairing) (q f : ℕ → ℕ) (h : ℕ) → Giving E p q f h → Giving any p q f h
 giving-any E p q f h r = record {
-  paired = record {
-    pairs = record { asked = λ x lx l. refl; back = r .paired .pairs .back; forth = r .paired .pairs .forth };
-    idle = r .paired .idle;
-    vacant = r .paired .vacant;
-  };
-  trail = record {
-    within = r .trail .within;
-    apart = r .trail .apart;
-    less = r .trail .less;
-    has = r .trail .has;
-    asked = λ k l lk. refl;
-  };
+  paired = paired-any E p (r .paired);
+  trail = trail-any E (at (p .mine)) q f (h + 1) (r .trail);
   room = r .room;
   later = r .later;
   first = r .first;

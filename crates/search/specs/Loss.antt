@@ -7,10 +7,10 @@ use native.Mathlib.Decide.{decLt}
 use lib.Dec.{ltb}
 use borrow.Author.Tests.{lt-ltb, le-ltb}
 use Rattle.masks.specs.Paper.{sum}
-use Rattle.masks.specs.Sum.{sum-change}
+use Rattle.masks.specs.Sum.{sum-change, sum-cong}
 use Rattle.matches.specs.Paper.{at}
 use Rattle.search.specs.declared.pairing.Pairing.{Pairing}
-use Rattle.search.specs.Pair.{Unlinked}
+use Rattle.search.specs.Pair.{Lacks, Unlinked}
 use Rattle.search.specs.Augment.{Augmented}
 
 unfoldable pub lack : (ℕ → ℕ) → (ℕ → ℕ) → ℕ → ℕ
@@ -52,3 +52,14 @@ loss-unlinked w m t x m′ t′ lx l a =
       lack-in w m x l,
       lack-out w m′ x (omega (arith, a .mine .here)),
     )
+
+-- the loss is decided by who lacks a partner
+pub loss-idle : (w m m′ : ℕ → ℕ) (set : ℕ) → Lacks m set → Lacks m′ set → loss w m′ ≡ loss w m
+loss-idle w m m′ set a b =
+    sum-cong 32 (lack w m′) (lack w m) (λ k lk. lack-same w m m′ k (λ l. lies a b k lk l) (λ l. lies b a k lk l))
+  where
+    lies : {f g : ℕ → ℕ} → Lacks f set → Lacks g set → (k : ℕ) → k < 32 → f k < 32 → g k < 32
+    lies {f = f} {g = g} c d k lk l = elim (decLt (g k) 32) [
+      | yes y ↦ y
+      | no n ↦ absurd (omega (arith, c .off k lk l, d .on k lk (omega arith)))
+    ]

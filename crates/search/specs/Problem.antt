@@ -1,7 +1,7 @@
--- The requests seen from both sides, and what is left of them when a pair is taken out. Assumes nothing.
+-- The requests seen from both sides, and what is left of them for some of the ports. Assumes nothing.
 use mathlib.Core.Path.{_≡_}
 use mathlib.Core.List.{List}
-use Prim.Native.Nat.{ℕ, _<_}
+use Prim.Native.Nat.{ℕ, _<_, min}
 use Rattle.masks.specs.Paper.{bit, has}
 use Rattle.matches.specs.Paper.{at, inAsks}
 use Rattle.search.specs.declared.problem.Problem.{Problem}
@@ -36,3 +36,8 @@ pub record ProblemOf (given : List ℕ) (p : Problem) : Type 0 where
 pub record WithoutPair (p : Problem) (i j : ℕ) (rest : Problem) : Type 0 where
   pub sound : Sound rest
   pub rows : Struck (p .rows) i j (rest .rows)
+
+-- r has the requests of all between the inputs and outputs that are left
+pub record LeftOf (all : Problem) (ins outs : ℕ) (r : Problem) : Type 0 where
+  pub sound : Sound r
+  pub rows : (k b : ℕ) → k < 32 → b < 32 → bit (at (r .rows) k) b ≡ min (bit ins k) (min (bit (at (all .rows) k) b) (bit outs b))

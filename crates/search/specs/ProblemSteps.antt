@@ -1,20 +1,24 @@
 -- What the steps promise that turn rows into columns and take a pair out, and why they add up. Assumes nothing.
 use mathlib.Core.Path.{_≡_, sym, ap, _∙_}
 use mathlib.Core.List.{List}
-use Prim.Native.Nat.{ℕ, _+_, _-_, _^_, _≤_, _<_, max}
+use Prim.Native.Nat.{ℕ, zero, suc, _+_, _^_, _≤_, _<_, min, max}
 use native.Mathlib.Decide.{ℕ-discrete}
 use native.Mathlib.Omega.{arith}
 use lib.ListN.{length, set, replicate, length-set, length-replicate, getD-replicate}
 use lib.Seq.{getD-set-same, getD-set-other}
-use mathlib.Core.Bool.{Bool, true, false}
+use mathlib.Core.Bool.{Bool, true, false, _&&_}
 use mathlib.Core.Logic.{_⊎_, inl, inr}
 use lib.Dec.{eqb}
-use Rattle.masks.specs.Paper.{bit, has, some, With, Without}
+use borrow.Author.Tests.{lt-ltb}
+use Rattle.masks.specs.Paper.{bit, has, keep, some, With, Without}
 use Rattle.masks.specs.Tests.{cases, clash, off, some-of, some-at}
 use Rattle.masks.specs.Laws.{bit-lt, bit-of-zero, no-bits, has-on, has-off, on-has, off-has}
 use Rattle.card.specs.Paper.{ports}
-use Rattle.matches.specs.Paper.{at, asks, inAsks}
-use Rattle.search.specs.Problem.{Columns, Asking, Struck}
+use Rattle.matches.specs.Paper.{at, tab, asks, mask, inAsks}
+use Rattle.matches.specs.Lists.{getD-tab}
+use Rattle.matches.specs.Table.{bit-mask, mask-lt}
+use Rattle.search.specs.declared.problem.Problem.{Problem}
+use Rattle.search.specs.Problem.{Columns, Asking, Sound, Struck, WithoutPair, LeftOf}
 
 -- ---- COLUMNS
 
@@ -141,78 +145,105 @@ asking-more {n} {rows} {set} {more} fits a m = record {
 pub asking-all : {rows : List ℕ} {set : ℕ} → AskingOf 32 rows set → Asking rows set
 asking-all a = record { is = a .is; outside = a .outside }
 
--- ---- A PAIR OUT
+-- ---- WHAT IS LEFT
 
--- r is rows with the first n without the ports of gone
-pub record Thinned (n : ℕ) (rows : List ℕ) (gone : ℕ) (r : List ℕ) : Type 0 where
+-- r is the row where its port stays, with those of theirs that do
+pub record Kept (stays : Bool) (row theirs r : ℕ) : Type 0 where
+  pub on : stays ≡ true → (b : ℕ) → bit r b ≡ min (bit row b) (bit theirs b)
+  pub off : stays ≡ false → r ≡ 0
+
+pub kept-bits : (mine k row theirs r : ℕ) → Kept (has mine k) row theirs r → (b : ℕ) → bit r b ≡ min (bit mine k) (min (bit row b) (bit theirs b))
+kept-bits mine k row theirs r h b = go (cases (has mine k))
+  where
+    go : (has mine k ≡ true) ⊎ (has mine k ≡ false) → bit r b ≡ min (bit mine k) (min (bit row b) (bit theirs b))
+    go (inl t) = omega (arith, h .on t b, has-on mine k t, bit-lt row b)
+    go (inr f) = omega (arith, ap (λ (x : ℕ). bit x b) (h .off f), bit-of-zero b, has-off mine k f)
+
+-- r is rows with the first n narrowed
+pub record Narrow (n : ℕ) (rows : List ℕ) (mine theirs : ℕ) (r : List ℕ) : Type 0 where
   pub long : length r ≡ 32
-  pub done : (k b : ℕ) → k < n → bit (at r k) b ≡ bit (at rows k) b - bit gone b
+  pub done : (k b : ℕ) → k < n → bit (at r k) b ≡ min (bit mine k) (min (bit (at rows k) b) (bit theirs b))
+  pub empty : (k : ℕ) → k < n → bit mine k ≡ 0 → at r k ≡ 0
   pub later : (k : ℕ) → n ≤ k → at r k ≡ at rows k
 
-pub thinned-more : {n : ℕ} {rows : List ℕ} {gone : ℕ} {r : List ℕ} (v : ℕ) → Thinned n rows gone r → n < 32
-    → ((b : ℕ) → bit v b ≡ bit (at r n) b - bit gone b) → Thinned (n + 1) rows gone (set r n v)
-thinned-more {n} {rows} {gone} {r} v t l m = record {
+pub narrow-more : {n : ℕ} {rows : List ℕ} {mine theirs : ℕ} {r : List ℕ} (v : ℕ) → Narrow n rows mine theirs r → n < 32
+    → Kept (has mine n) (at r n) theirs v → Narrow (n + 1) rows mine theirs (set r n v)
+narrow-more {n} {rows} {mine} {theirs} {r} v t l m = record {
   long = simp length-set (t .long);
   done = λ k b u. elim (ℕ-discrete k n) [
-    | yes e ↦ rw (e, getD-set-same r n v 0 (omega (arith, t .long))) (m b ∙ ap (λ (x : ℕ). bit x b - bit gone b) (t .later n (omega arith)))
+    | yes e ↦ rw (e, getD-set-same r n v 0 (omega (arith, t .long))) (kept-bits mine n (at r n) theirs v m b ∙ ap (λ (x : ℕ). min (bit mine n) (min (bit x b) (bit theirs b))) (t .later n (omega arith)))
     | no d ↦ rw (getD-set-other r n k v 0 d) (t .done k b (omega (arith, d)))
+  ];
+  empty = λ k u z. elim (ℕ-discrete k n) [
+    | yes e ↦ rw (e, getD-set-same r n v 0 (omega (arith, t .long))) (m .off (off-has mine n (ap (bit mine) (sym e) ∙ z)))
+    | no d ↦ rw (getD-set-other r n k v 0 d) (t .empty k (omega (arith, d)) z)
   ];
   later = λ k u. getD-set-other r n k v 0 (λ e. omega arith) ∙ t .later k (omega arith);
 }
 
--- r is rows with row i empty, and the ports of gone out of the others
-pub record Stricken (rows : List ℕ) (i gone : ℕ) (r : List ℕ) : Type 0 where
-  pub empty : i < 32 → at r i ≡ 0
-  pub other : (k b : ℕ) → k < 32 → (k ≡ i → ⊥) → bit (at r k) b ≡ bit (at rows k) b - bit gone b
+-- one side of what is left
+pub record Left (rows : List ℕ) (mine theirs : ℕ) (r : List ℕ) : Type 0 where
+  pub bits : (k b : ℕ) → k < 32 → b < 32 → bit (at r k) b ≡ min (bit mine k) (min (bit (at rows k) b) (bit theirs b))
+  pub empty : (k : ℕ) → k < 32 → bit mine k ≡ 0 → at r k ≡ 0
 
-pub stricken-in : {rows : List ℕ} {gone : ℕ} {r : List ℕ} (i : ℕ) → Thinned 32 rows gone r → i < 32 → Stricken rows i gone (set r i 0)
-stricken-in {rows} {gone} {r} i t l = record {
-  empty = λ _. getD-set-same r i 0 0 (omega (arith, t .long));
-  other = λ k b u d. rw (getD-set-other r i k 0 0 d) (t .done k b u);
+pub narrow-left : {rows : List ℕ} {mine theirs : ℕ} {r : List ℕ} → Narrow 32 rows mine theirs r → Left rows mine theirs r
+narrow-left t = record { bits = λ k b lk lb. t .done k b lk; empty = t .empty }
+
+-- both sides lose the same requests, so they still agree
+pub left-law : (all rest : Problem) → Sound all → Left (all .rows) (rest .ins) (rest .outs) (rest .rows) → Left (all .cols) (rest .outs) (rest .ins) (rest .cols)
+    → LeftOf all (rest .ins) (rest .outs) rest
+left-law all rest h r c = record {
+  sound = record {
+    columns = record { turned = λ i j li lj. omega (arith, r .bits i j li lj, c .bits j i lj li, h .columns .turned i j li lj) };
+    ins = r .empty;
+    outs = c .empty;
+  };
+  rows = r .bits;
 }
 
-pub stricken-out : {rows : List ℕ} {gone : ℕ} {r : List ℕ} (i : ℕ) → Thinned 32 rows gone r → 32 ≤ i → Stricken rows i gone r
-stricken-out i t h = record { empty = λ l. absurd (omega arith); other = λ k b u _. t .done k b u }
+-- ---- the same, as a definition
 
--- the set that goes is the port j alone
-module _ {list : List ℕ} {i j one : ℕ} {rest : List ℕ} (w : With 0 j one) (s : Stricken list i one rest) where
-  struck-entry : (b : ℕ) → i < 32 → bit (at rest i) b ≡ 0
-  struck-entry b l = ap (λ (x : ℕ). bit x b) (s .empty l) ∙ bit-of-zero b
+narrowed : List ℕ → ℕ → ℕ → List ℕ
+narrowed rows mine theirs = tab 32 (λ k. mask 32 (λ b. has mine k && (has (at rows k) b && has theirs b)))
 
-  struck-bit : (k : ℕ) → k < 32 → j < 32 → bit (at rest k) j ≡ 0
-  struck-bit k lk lj = elim (ℕ-discrete k i) [
-    | yes e ↦ rw e (struck-entry j (omega arith))
-    | no d ↦ omega (arith, s .other k j lk d, w .here lj, bit-lt (at list k) j)
-  ]
+all-of : (x y z : ℕ) → x < 2 → y < 2 → z < 2 → keep (eqb x 1 && (eqb y 1 && eqb z 1)) 1 ≡ min x (min y z)
+all-of zero y z _ _ _ = sym (omega arith)
+all-of (suc zero) zero z _ _ _ = sym (omega arith)
+all-of (suc zero) (suc zero) zero _ _ _ = sym (omega arith)
+all-of (suc zero) (suc zero) (suc zero) _ _ _ = sym (omega arith)
+all-of (suc zero) (suc zero) (suc (suc z)) _ _ h = absurd (omega arith)
+all-of (suc zero) (suc (suc y)) z _ h _ = absurd (omega arith)
+all-of (suc (suc x)) y z h _ _ = absurd (omega arith)
 
-  struck-other : (k b : ℕ) → k < 32 → (k ≡ i → ⊥) → (b ≡ j → ⊥) → bit (at rest k) b ≡ bit (at list k) b
-  struck-other k b l d q = omega (arith, s .other k b l d, w .other b q, bit-of-zero b)
+narrowed-left : (rows : List ℕ) (mine theirs : ℕ) → Left rows mine theirs (narrowed rows mine theirs)
+unfolding narrowed
+narrowed-left rows mine theirs = record { bits = bits; empty = λ k lk z. no-bits 32 _ (rw (entry k lk) (mask-lt 32 _)) (λ b lb. omega (arith, bits k b lk lb)) }
+  where
+    row : ℕ → ℕ → Bool
+    row k b = has mine k && (has (at rows k) b && has theirs b)
 
-  pub struck : Struck list i j rest
-  struck = record {
-    row = λ b _ l. struck-entry b l;
-    column = struck-bit;
-    other = λ k b lk _ d q. struck-other k b lk d q;
-  }
+    entry : (k : ℕ) → k < 32 → at (tab 32 (λ k. mask 32 (row k))) k ≡ mask 32 (row k)
+    entry k lk = getD-tab 32 (λ k. mask 32 (row k)) k 0 lk
 
-  -- who was outside the set of those that ask still is
-  pub still-outside : (set less : ℕ) → Without set i less → ((k : ℕ) → at rest k < 2 ^ 32)
-      → ((k : ℕ) → k < 32 → bit set k ≡ 0 → at list k ≡ 0) → (k : ℕ) → k < 32 → bit less k ≡ 0 → at rest k ≡ 0
-  still-outside set less gone fits out k l z = elim (ℕ-discrete k i) [
-    | yes e ↦ rw e (s .empty (omega arith))
-    | no d ↦
-        let none : at list k ≡ 0 = out k l (sym (gone .other k d) ∙ z) in
-        no-bits 32 (at rest k) (fits k) (λ b _. omega (arith, s .other k b l d, ap (λ (x : ℕ). bit x b) none, bit-of-zero b))
-  ]
+    bits : (k b : ℕ) → k < 32 → b < 32 → bit (at (tab 32 (λ k. mask 32 (row k))) k) b ≡ min (bit mine k) (min (bit (at rows k) b) (bit theirs b))
+    bits k b lk lb = ap (λ (x : ℕ). bit x b) (entry k lk) ∙ bit-mask 32 (row k) b ∙ ap (λ (t : Bool). keep (t && row k b) 1) (lt-ltb b 32 lb)
+        ∙ all-of (bit mine k) (bit (at rows k) b) (bit theirs b) (bit-lt mine k) (bit-lt (at rows k) b) (bit-lt theirs b)
 
--- both sides lose the pair, so they still agree
-pub columns-less : {rows cols : List ℕ} {i j : ℕ} {rest left : List ℕ} → Columns rows cols → Struck rows i j rest → Struck cols j i left → Columns rest left
-columns-less {rows} {cols} {i} {j} {rest} {left} c r l = record {
-  turned = λ k b lk lb. elim (ℕ-discrete k i) [
-    | yes e ↦ rw e (l .column b lb (omega arith) ∙ sym (r .row b lb (omega arith)))
-    | no d ↦ elim (ℕ-discrete b j) [
-      | yes e ↦ rw e (l .row k lk (omega arith) ∙ sym (r .column k lk (omega arith)))
-      | no q ↦ l .other b k lb lk q d ∙ c .turned k b lk lb ∙ sym (r .other k b lk lb d q)
-    ]
-  ];
+leftOf : Problem → ℕ → ℕ → Problem
+leftOf all ins outs = record { rows = narrowed (all .rows) ins outs; cols = narrowed (all .cols) outs ins; ins = ins; outs = outs }
+
+pub left-exists : (all : Problem) (ins outs : ℕ) → Sound all → (rest : Problem) × LeftOf all ins outs rest
+unfolding leftOf
+left-exists all ins outs h = (leftOf all ins outs, left-law all (leftOf all ins outs) h (narrowed-left (all .rows) ins outs) (narrowed-left (all .cols) outs ins))
+
+-- ---- a pair out
+
+pub without-pair : {all p rest : Problem} {ins outs i j ins′ outs′ : ℕ} → LeftOf all ins outs p → Without ins i ins′ → Without outs j outs′ → LeftOf all ins′ outs′ rest → WithoutPair p i j rest
+without-pair {all} {p} {rest} {ins} {outs} {i} {j} {ins′} {outs′} a wi wo b = record {
+  sound = b .sound;
+  rows = record {
+    row = λ c lc li. omega (arith, b .rows i c li lc, wi .here);
+    column = λ k lk lj. omega (arith, b .rows k j lk lj, wo .here);
+    other = λ k c lk lc d e. omega (arith, b .rows k c lk lc, a .rows k c lk lc, wi .other k d, wo .other c e);
+  };
 }

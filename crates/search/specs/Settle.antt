@@ -1,6 +1,5 @@
 -- What the settling promises. Assumes nothing.
 use mathlib.Core.Path.{_≡_, refl, sym, ap, _∙_}
-use mathlib.Core.Bool.{true, false}
 use mathlib.Core.Logic.{_⊎_, inl, inr}
 use mathlib.Core.List.{List}
 use Prim.Native.Nat.{ℕ, _+_, _≤_, _<_, min}
@@ -14,13 +13,12 @@ use Rattle.matches.specs.Certificate.{SetFor}
 use Rattle.matches.specs.Heaviest.{closed-alone}
 use Rattle.search.specs.declared.reach.Search.{Search}
 use Rattle.search.specs.declared.pairing.Pairing.{Pairing}
-use Rattle.search.specs.declared.settle.Tried.{Tried}
 use Rattle.search.specs.Pair.{Paired}
 use Rattle.search.specs.Stage.{wants, Closed, Trail, stage-room}
 use Rattle.search.specs.Reach.{Reached}
 use Rattle.search.specs.Augment.{Ready, Augmented, trail-cut}
 use Rattle.search.specs.Exchange.{Giving, Exchanged}
-use Rattle.search.specs.Loss.{loss, loss-augmented}
+use Rattle.search.specs.Loss.{loss, loss-augmented, loss-idle}
 
 -- ---- the lightest of a queue
 
@@ -93,12 +91,11 @@ lossOf ws p = loss (at ws) (at (p .mine))
 abbrev pub Uses : Pairing → Pairing → Type 0
 Uses p r = (k : ℕ) → k < 32 → at (p .theirs) k < 32 → at (r .theirs) k < 32
 
--- a try for u: a pairing that has lost less, or the given one, where u is certified
-pub record Attempted (rows ws : List ℕ) (p : Pairing) (u : ℕ) (r : Tried) : Type 0 where
-  pub paired : Paired (wants rows) (r .pairing)
-  pub used : Uses p (r .pairing)
-  pub gained : r .changed ≡ true → lossOf ws (r .pairing) < lossOf ws p
-  pub same : r .changed ≡ false → SetFor (asks rows) 32 32 (at (p .mine)) (at ws) u
+-- u had its turn: a pairing that has lost less, or the given one, where u is matched or certified
+pub record Visited (rows ws : List ℕ) (p : Pairing) (u : ℕ) (r : Pairing) : Type 0 where
+  pub paired : Paired (wants rows) r
+  pub used : Uses p r
+  pub went : (lossOf ws r < lossOf ws p) ⊎ ((r ≡ p) × Good rows ws p u)
 
 -- ---- a try
 
@@ -123,12 +120,11 @@ module _ (rows ws : List ℕ) (p : Pairing) (u : ℕ) (pp : Paired (wants rows) 
     first = first-free;
   }
 
-  pub tried-found : (j : ℕ) (r : Pairing) → Augmented (wants rows) p (at (s .queue) 0) j r → Attempted rows ws p u (record { changed = true; pairing = r })
+  pub tried-found : (j : ℕ) (r : Pairing) → Augmented (wants rows) p (at (s .queue) 0) j r → Visited rows ws p u r
   tried-found j r a = record {
     paired = a .paired;
     used = a .used;
-    gained = λ e. omega (arith, loss-augmented _ (at ws) _ _ j _ (h .stage .trail .within 0 (h .stage .some)) first-free a);
-    same = λ e. (let z : _≡_ {A = ℕ} 0 1 = cc in absurd (omega arith));
+    went = inl (omega (arith, loss-augmented _ (at ws) _ _ j _ (h .stage .trail .within 0 (h .stage .some)) first-free a));
   }
 
   module _ (nf : 32 ≤ s .found) (k : ℕ) (lk : Lightest (at ws) (at (s .queue)) (s .len) k) (x a b : ℕ) (ex : x ≡ at (s .queue) k) (ea : a ≡ at ws x) (eb : b ≡ at ws u) where
@@ -147,43 +143,36 @@ module _ (rows ws : List ℕ) (p : Pairing) (u : ℕ) (pp : Paired (wants rows) 
       first = first-free;
     }
 
-    pub tried-exchange : a < b → (r : Pairing) → Exchanged (wants rows) p (at (s .queue) 0) (at (s .queue) k) r → Attempted rows ws p u (record { changed = true; pairing = r })
+    pub tried-exchange : a < b → (r : Pairing) → Exchanged (wants rows) p (at (s .queue) 0) (at (s .queue) k) r → Visited rows ws p u r
     tried-exchange l r e = record {
       paired = e .paired;
       used = e .used;
-      gained = λ q. omega (arith, e .loses (at ws), light, ap (at ws) (h .root));
-      same = λ q. (let z : _≡_ {A = ℕ} 0 1 = cc in absurd (omega arith));
+      went = inl (omega (arith, e .loses (at ws), light, ap (at ws) (h .root)));
     }
 
-    pub tried-none : b ≤ a → Attempted rows ws p u (record { changed = false; pairing = p })
+    pub tried-none : b ≤ a → Visited rows ws p u p
     tried-none l = record {
       paired = pp;
       used = λ i li g. g;
-      gained = λ q. (let z : _≡_ {A = ℕ} 0 1 = cc in absurd (omega arith));
-      same = λ q. seen-closed rows ws p u (s .ins) pp (h .shut nf)
-          (λ y ly m. (let i = h .stage .listed y ly m in omega (arith, light, lk .least (i .0) (i .1), ap (at ws) (i .2))));
+      went = inr (
+        refl,
+        λ q. seen-closed rows ws p u (s .ins) pp (h .shut nf)
+            (λ y ly m. (let i = h .stage .listed y ly m in omega (arith, light, lk .least (i .0) (i .1), ap (at ws) (i .2)))),
+      );
     }
 
 -- ---- the passes
 
-pub record Visited (rows ws : List ℕ) (t : Tried) (u : ℕ) (r : Tried) : Type 0 where
-  pub paired : Paired (wants rows) (r .pairing)
-  pub used : Uses (t .pairing) (r .pairing)
-  pub went : ((r .changed ≡ true) × (lossOf ws (r .pairing) < lossOf ws (t .pairing))) ⊎ ((r ≡ t) × Good rows ws (t .pairing) u)
+-- all but those left had their turn, from the pairing p
+pub record Passing (rows ws : List ℕ) (p q : Pairing) (left : ℕ) : Type 0 where
+  pub paired : Paired (wants rows) q
+  pub used : Uses p q
+  pub went : (lossOf ws q < lossOf ws p) ⊎ ((q ≡ p) × ((v : ℕ) → v < 32 → bit left v ≡ 0 → Good rows ws p v))
 
--- all but those left were visited, from the pairing p
-pub record Passing (rows ws : List ℕ) (p : Pairing) (t : Tried) (left : ℕ) : Type 0 where
-  pub paired : Paired (wants rows) (t .pairing)
-  pub used : Uses p (t .pairing)
-  pub less : lossOf ws (t .pairing) ≤ lossOf ws p
-  pub fell : t .changed ≡ true → lossOf ws (t .pairing) < lossOf ws p
-  pub still : t .changed ≡ false → (v : ℕ) → v < 32 → bit left v ≡ 0 → Good rows ws (t .pairing) v
-
-pub record Swept (rows ws : List ℕ) (p : Pairing) (r : Tried) : Type 0 where
-  pub paired : Paired (wants rows) (r .pairing)
-  pub used : Uses p (r .pairing)
-  pub fell : r .changed ≡ true → lossOf ws (r .pairing) < lossOf ws p
-  pub still : r .changed ≡ false → (v : ℕ) → v < 32 → Good rows ws (r .pairing) v
+pub record Swept (rows ws : List ℕ) (p r : Pairing) : Type 0 where
+  pub paired : Paired (wants rows) r
+  pub used : Uses p r
+  pub went : (lossOf ws r < lossOf ws p) ⊎ ((r ≡ p) × ((v : ℕ) → v < 32 → Good rows ws p v))
 
 -- a pairing; what was in use is; and every unmatched input has a closed set of inputs that weigh at least as much
 pub record Settled (rows ws : List ℕ) (p r : Pairing) : Type 0 where
@@ -191,65 +180,67 @@ pub record Settled (rows ws : List ℕ) (p r : Pairing) : Type 0 where
   pub used : Uses p r
   pub good : (v : ℕ) → v < 32 → Good rows ws r v
 
-module _ (rows ws : List ℕ) (t : Tried) (u : ℕ) (pp : Paired (wants rows) (t .pairing)) where
-  pub visit-had : at (t .pairing .mine) u < 32 → Visited rows ws t u t
-  visit-had l = record { paired = pp; used = λ k lk g. g; went = inr (refl, λ g. absurd (omega arith)) }
-
-  module _ (a : Tried) (h : Attempted rows ws (t .pairing) u a) where
-    pub visit-won : a .changed ≡ true → Visited rows ws t u a
-    visit-won e = record { paired = h .paired; used = h .used; went = inl (e, h .gained e) }
-
-    pub visit-lost : a .changed ≡ false → Visited rows ws t u t
-    visit-lost e = record { paired = pp; used = λ k lk g. g; went = inr (refl, λ g. h .same e) }
+pub visit-had : (rows ws : List ℕ) (p : Pairing) (u : ℕ) → Paired (wants rows) p → at (p .mine) u < 32 → Visited rows ws p u p
+visit-had rows ws p u pp l = record { paired = pp; used = λ k lk g. g; went = inr (refl, λ g. absurd (omega arith)) }
 
 module _ (rows ws : List ℕ) (p : Pairing) where
   pub pass-begin : Paired (wants rows) p → (asking left : ℕ) → Outside rows asking → ((k : ℕ) → bit left k ≡ min (bit (p .idle) k) (bit asking k))
-      → Passing rows ws p (record { changed = false; pairing = p }) left
+      → Passing rows ws p p left
   pass-begin pp asking left out e = record {
     paired = pp;
     used = λ k lk g. g;
-    less = omega arith;
-    fell = λ e. (let z : _≡_ {A = ℕ} 0 1 = cc in absurd (omega arith));
-    still = λ c v lv b. (elim (ℕ-discrete (bit asking v) 0) [
-      | yes z ↦ outside-good rows ws p v (out v lv z)
-      | no d ↦ λ g. absurd (omega (arith, pp .idle .on v lv g, e v, d, b))
-    ]);
+    went = inr (
+      refl,
+      λ v lv b. (elim (ℕ-discrete (bit asking v) 0) [
+        | yes z ↦ outside-good rows ws p v (out v lv z)
+        | no d ↦ λ g. absurd (omega (arith, pp .idle .on v lv g, e v, d, b))
+      ]),
+    );
   }
 
-  pub pass-more : (t r : Tried) (left u left′ : ℕ) → Passing rows ws p t left → Visited rows ws t u r → Without left u left′ → Passing rows ws p r left′
-  pass-more t r left u left′ h d w = go (d .went)
+  pub pass-more : (q r : Pairing) (left u left′ : ℕ) → Passing rows ws p q left → Visited rows ws q u r → Without left u left′ → Passing rows ws p r left′
+  pass-more q r left u left′ h d w = record { paired = d .paired; used = λ k lk i. d .used k lk (h .used k lk i); went = go (h .went) (d .went) }
     where
-      go : ((r .changed ≡ true) × (lossOf ws (r .pairing) < lossOf ws (t .pairing))) ⊎ ((r ≡ t) × Good rows ws (t .pairing) u) → Passing rows ws p r left′
-      go (inl g) = record {
-        paired = d .paired;
-        used = λ k lk i. d .used k lk (h .used k lk i);
-        less = omega (arith, g .1, h .less);
-        fell = λ e. omega (arith, g .1, h .less);
-        still = λ e. (let y = g .0 in let z : _≡_ {A = ℕ} 0 1 = cc in absurd (omega arith));
-      }
-      go (inr g) = rw (g .0) (record {
-        paired = h .paired;
-        used = h .used;
-        less = h .less;
-        fell = h .fell;
-        still = λ e v lv b. (elim (ℕ-discrete v u) [ yes z ↦ rw z (g .1) | no n ↦ h .still e v lv (sym (w .other v n) ∙ b) ]);
-      })
+      go : (lossOf ws q < lossOf ws p) ⊎ ((q ≡ p) × ((v : ℕ) → v < 32 → bit left v ≡ 0 → Good rows ws p v))
+          → (lossOf ws r < lossOf ws q) ⊎ ((r ≡ q) × Good rows ws q u)
+          → (lossOf ws r < lossOf ws p) ⊎ ((r ≡ p) × ((v : ℕ) → v < 32 → bit left′ v ≡ 0 → Good rows ws p v))
+      go (inl a) (inl b) = inl (omega arith)
+      go (inl a) (inr b) = inl (omega (arith, ap (lossOf ws) (b .0)))
+      go (inr a) (inl b) = inl (omega (arith, ap (lossOf ws) (a .0)))
+      go (inr a) (inr b) = inr (
+        b .0 ∙ a .0,
+        λ v lv e. (elim (ℕ-discrete v u) [ yes z ↦ rw z (rw (a .0) at (b .1)) | no n ↦ a .1 v lv (sym (w .other v n) ∙ e) ]),
+      )
 
-  pub pass-end : (t : Tried) (left : ℕ) → left ≡ 0 → Passing rows ws p t left → Swept rows ws p t
-  pass-end t left z h = record {
-    paired = h .paired;
-    used = h .used;
-    fell = h .fell;
-    still = λ e v lv. h .still e v lv (ap (λ (y : ℕ). bit y v) z ∙ bit-of-zero v);
-  }
+  pub pass-end : (q : Pairing) (left : ℕ) → left ≡ 0 → Passing rows ws p q left → Swept rows ws p q
+  pass-end q left z h = record { paired = h .paired; used = h .used; went = go (h .went) }
+    where
+      go : (lossOf ws q < lossOf ws p) ⊎ ((q ≡ p) × ((v : ℕ) → v < 32 → bit left v ≡ 0 → Good rows ws p v))
+          → (lossOf ws q < lossOf ws p) ⊎ ((q ≡ p) × ((v : ℕ) → v < 32 → Good rows ws p v))
+      go (inl a) = inl a
+      go (inr a) = inr (a .0, λ v lv. a .1 v lv (ap (λ (y : ℕ). bit y v) z ∙ bit-of-zero v))
 
   -- the pairing q was come to from p
   pub record Come (q : Pairing) : Type 0 where
     pub paired : Paired (wants rows) q
     pub used : Uses p q
 
-  pub come-more : (q : Pairing) (r : Tried) → Come q → Swept rows ws q r → Come (r .pairing)
-  come-more q r h d = record { paired = d .paired; used = λ k lk g. d .used k lk (h .used k lk g) }
+  module _ (q r : Pairing) (h : Come q) (d : Swept rows ws q r) where
+    pub come-more : Come r
+    come-more = record { paired = d .paired; used = λ k lk g. d .used k lk (h .used k lk g) }
 
-  pub come-end : (q : Pairing) (r : Tried) → Come q → Swept rows ws q r → r .changed ≡ false → Settled rows ws p (r .pairing)
-  come-end q r h d e = record { paired = d .paired; used = λ k lk g. d .used k lk (h .used k lk g); good = d .still e }
+    -- other ones are idle: the sweep changed something
+    pub come-less : (r .idle ≡ q .idle → ⊥) → lossOf ws r < lossOf ws q
+    come-less n = go (d .went)
+      where
+        go : (lossOf ws r < lossOf ws q) ⊎ ((r ≡ q) × ((v : ℕ) → v < 32 → Good rows ws q v)) → lossOf ws r < lossOf ws q
+        go (inl a) = a
+        go (inr a) = absurd (n (ap (λ (y : Pairing). y .idle) (a .0)))
+
+    -- the same ones are idle: it changed nothing
+    pub come-end : r .idle ≡ q .idle → Settled rows ws p r
+    come-end e = record { paired = d .paired; used = come-more .used; good = go (d .went) }
+      where
+        go : (lossOf ws r < lossOf ws q) ⊎ ((r ≡ q) × ((v : ℕ) → v < 32 → Good rows ws q v)) → (v : ℕ) → v < 32 → Good rows ws r v
+        go (inl a) = absurd (omega (arith, loss-idle (at ws) (at (q .mine)) (at (r .mine)) (q .idle) (h .paired .idle) (rw e at (d .paired .idle))))
+        go (inr a) = rw (a .0) (a .1)

@@ -13,11 +13,13 @@ ghost use Prim.Native.Nat.{ℕ, _+_, _<_, _≤_};
 ghost use lib.ListN.{set};
 ghost use Rattle.card.specs.Paper.{out};
 ghost use Rattle.matches.specs.Paper.{at};
-ghost use Rattle.search.specs.First.{Fit, State, Gone, Parted, Placing, FirstOf};
+ghost use Rattle.search.specs.Problem.{Sound};
+ghost use Rattle.search.specs.First.{Fit, State, Gone, Keeping, Candidates, Parted, FirstOf};
 
-// The problem that is left, a heaviest match of it with its weight, and the partners fixed so far.
+// The inputs and outputs that are left, a heaviest match of what they request with its weight, and the partners fixed so far.
 pub struct Rest {
-    pub problem: Problem,
+    pub ins: u32,
+    pub outs: u32,
     pub pairing: Pairing,
     pub weight: u64,
     pub partners: [Out; 32],
@@ -45,17 +47,19 @@ fn parted(p: Pairing, i: u32, j: u32) -> Pairing
 }
 
 // Input i goes to output j: what that leaves, with a heaviest match of it.
-fn trial(rest: Rest, inputs: [u32; 32], outputs: [u32; 32], i: u32, j: u32) -> Rest
-    requires { ⌜ (i < 32) × (j < 32) × (Fit rest) ⌝ }
-    ensures { λ r. ⌜ Gone inputs outputs rest i j r ⌝ }
+fn trial(all: Problem, rest: Rest, inputs: [u32; 32], outputs: [u32; 32], i: u32, j: u32) -> Rest
+    requires { ⌜ (i < 32) × (j < 32) × (Fit all rest) ⌝ }
+    ensures { λ r. ⌜ Gone all inputs outputs rest i j r ⌝ }
 {
-    let all = rest.problem;
     let p = rest.pairing;
     let partners = rest.partners;
-    let less = problem::without(all, i, j);
+    let ins = masks::without(rest.ins, i);
+    let outs = masks::without(rest.outs, j);
+    let less = problem::left_of(all, ins, outs);
     let q = heaviest::heaviest(less, inputs, outputs, parted(p, i, j));
     Rest {
-        problem: less,
+        ins: ins,
+        outs: outs,
         pairing: q,
         weight: heaviest::weigh(q, inputs, outputs),
         partners: with_partner(partners, i, j),
@@ -64,44 +68,54 @@ fn trial(rest: Rest, inputs: [u32; 32], outputs: [u32; 32], i: u32, j: u32) -> R
 
 // Input i keeps what it has in the match at hand: a heaviest match less one of its pairs is heaviest for what is left.
 fn keep(rest: Rest, inputs: [u32; 32], outputs: [u32; 32], i: u32, now: u32) -> Rest
-    requires { ⌜ (i < 32) × (now ≡ at (rest .pairing .mine) i) × (Fit rest) ⌝ }
-    ensures { λ r. ⌜ ((rows : List ℕ) → State rows inputs outputs rest i → Placing rows inputs outputs rest i 0 → State rows inputs outputs r (i + 1)) ⌝ }
+    requires { ⌜ (i < 32) × (now ≡ at (rest .pairing .mine) i) ⌝ }
+    ensures { λ r. ⌜ Keeping inputs outputs rest i r ⌝ }
 {
-    let all = rest.problem;
     let p = rest.pairing;
     let partners = rest.partners;
-    let less = problem::without(all, i, now);
+    let ins = masks::without(rest.ins, i);
+    let outs = masks::without(rest.outs, now);
     if now < 32 {
         let q = pairing::unlink(p, i);
         return Rest {
-            problem: less,
+            ins: ins,
+            outs: outs,
             pairing: q,
             weight: heaviest::weigh(q, inputs, outputs),
             partners: with_partner(partners, i, now),
         };
     }
     Rest {
-        problem: less,
+        ins: ins,
+        outs: outs,
         pairing: p,
         weight: rest.weight,
         partners: partners,
     }
 }
 
-// Input i goes to the first output with which the whole still weighs as much; below its present partner there may be some.
-fn fix(rest: Rest, inputs: [u32; 32], outputs: [u32; 32], i: u32) -> Rest
-    requires { ⌜ (i < 32) × (Fit rest) ⌝ }
-    ensures { λ r. ⌜ ((rows : List ℕ) → State rows inputs outputs rest i → State rows inputs outputs r (i + 1)) ⌝ }
+// What input i still requests below its present partner.
+fn candidates(all: Problem, rest: Rest, i: u32, now: u32) -> u32
+    requires { ⌜ i < 32 ⌝ }
+    ensures { λ r. ⌜ Candidates all rest i now r ⌝ }
 {
-    let all = rest.problem;
+    let rows = all.rows;
+    let row = problem::kept(masks::has(rest.ins, i), pairing::word(&rows, i), rest.outs);
+    masks::both(row, masks::below(now))
+}
+
+// Input i goes to the first output with which the whole still weighs as much; below its present partner there may be some.
+fn fix(all: Problem, rest: Rest, inputs: [u32; 32], outputs: [u32; 32], i: u32) -> Rest
+    requires { ⌜ (i < 32) × (Fit all rest) ⌝ }
+    ensures { λ r. ⌜ ((rows : List ℕ) → State all rows inputs outputs rest i → State all rows inputs outputs r (i + 1)) ⌝ }
+{
     let p = rest.pairing;
-    let left_rows = all.rows;
     let mine = p.mine;
     let now = pairing::get(mine, i);
-    let mut left = masks::both(pairing::word(left_rows, i), masks::below(now));
+    let mut left = candidates(all, rest, i, now);
     while left != 0 {
         let j = masks::first(left);
-        let t = trial(rest, inputs, outputs, i, j);
+        let t = trial(all, rest, inputs, outputs, i, j);
         if t.weight + heaviest::gain(inputs, outputs, i, j) == rest.weight {
             return t;
         }
@@ -111,24 +125,25 @@ fn fix(rest: Rest, inputs: [u32; 32], outputs: [u32; 32], i: u32) -> Rest
 }
 
 // Input i, whose row is given, is fixed; one without a request keeps none.
-fn place(rest: Rest, row: u32, inputs: [u32; 32], outputs: [u32; 32], i: u32) -> Rest
-    requires { ⌜ (i < 32) × (Fit rest) ⌝ }
-    ensures { λ r. ⌜ ((rows : List ℕ) → row ≡ at rows i → State rows inputs outputs rest i → State rows inputs outputs r (i + 1)) ⌝ }
+fn place(all: Problem, rest: Rest, row: u32, inputs: [u32; 32], outputs: [u32; 32], i: u32) -> Rest
+    requires { ⌜ (i < 32) × (Fit all rest) ⌝ }
+    ensures { λ r. ⌜ ((rows : List ℕ) → row ≡ at rows i → State all rows inputs outputs rest i → State all rows inputs outputs r (i + 1)) ⌝ }
 {
     if row == 0 {
         return rest;
     }
-    fix(rest, inputs, outputs, i)
+    fix(all, rest, inputs, outputs, i)
 }
 
 // Nothing is fixed yet.
-fn begin(rows: [u32; 32], inputs: [u32; 32], outputs: [u32; 32]) -> Rest
-    ensures { λ r. ⌜ (State rows inputs outputs r 0) × (r .weight < 274877906944) ⌝ }
+fn begin(all: Problem, inputs: [u32; 32], outputs: [u32; 32]) -> Rest
+    requires { ⌜ Sound all ⌝ }
+    ensures { λ r. ⌜ (State all (all .rows) inputs outputs r 0) ⌝ }
 {
-    let all = problem::problem_of(rows);
     let p = heaviest::heaviest(all, inputs, outputs, pairing::empty());
     Rest {
-        problem: all,
+        ins: all.ins,
+        outs: all.outs,
         pairing: p,
         weight: heaviest::weigh(p, inputs, outputs),
         partners: [Out(Card::NONE); 32],
@@ -144,11 +159,12 @@ pub struct Found {
 pub fn first(rows: [u32; 32], inputs: [u32; 32], outputs: [u32; 32]) -> Found
     ensures { λ r. ⌜ FirstOf rows inputs outputs r ⌝ }
 {
-    let mut rest = begin(rows, inputs, outputs);
+    let all = problem::problem_of(rows);
+    let mut rest = begin(all, inputs, outputs);
     let weight = rest.weight;
     let mut i: u32 = 0;
     while i < 32 {
-        rest = place(rest, pairing::word(rows, i), inputs, outputs, i);
+        rest = place(all, rest, pairing::word(&rows, i), inputs, outputs, i);
         i += 1;
     }
     let partners = rest.partners;

@@ -28,7 +28,7 @@ pub fn gain(inputs: [u32; 32], outputs: [u32; 32], i: u32, j: u32) -> u64
     requires { ⌜ (i < 32) × (j < 32) ⌝ }
     ensures { λ r. ⌜ (r ≡ at inputs i + at outputs j) × (r < 8589934592) ⌝ }
 {
-    wide(pairing::word(inputs, i)) + wide(pairing::word(outputs, j))
+    wide(pairing::word(&inputs, i)) + wide(pairing::word(&outputs, j))
 }
 
 fn wide(x: u32) -> u64

@@ -58,9 +58,9 @@ pub fn get(list: [u8; 32], i: u32) -> u32
     list[k] as u32
 }
 
-pub fn word(list: [u32; 32], i: u32) -> u32
+pub fn word(list: &[u32; 32], i: u32) -> u32
     requires { ⌜ i < 32 ⌝ }
-    ensures { λ r. ⌜ r ≡ at list i ⌝ }
+    ensures { λ r. ⌜ r ≡ at (now (list .entry)) i ⌝ }
 {
     let k = i as usize;
     list[k]

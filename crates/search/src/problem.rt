@@ -1,9 +1,9 @@
-// The requests seen from both sides, and what is left of them when a pair is taken out.
+// The requests seen from both sides, and what is left of them for some of the ports.
 ghost use mathlib.Core.Path.{_≡_};
 ghost use Prim.Native.Nat.{_<_};
 ghost use lib.ListN.{length};
-ghost use Rattle.search.specs.Problem.{Columns, Asking, Sound, ProblemOf, WithoutPair};
-ghost use Rattle.search.specs.ProblemSteps.{Spread, Marked, Thinned, Stricken};
+ghost use Rattle.search.specs.Problem.{Columns, Asking, Sound, ProblemOf, LeftOf};
+ghost use Rattle.search.specs.ProblemSteps.{Spread, Marked, Kept, Narrow};
 
 // Rows for the inputs and columns for the outputs, and two sets: an input outside `ins` and an output outside `outs` have no request.
 pub struct Problem {
@@ -79,42 +79,36 @@ pub fn problem_of(rows: [u32; 32]) -> Problem
     }
 }
 
-// Every row without the ports of `gone`. The loop has no branch, so that the compiler can take several rows at once.
-fn thin(rows: [u32; 32], gone: u32) -> [u32; 32]
-    ensures { λ r. ⌜ Thinned 32 rows gone r ⌝ }
+// What is left of a row: nothing where its own port has gone, and else what it asks of theirs.
+pub fn kept(stays: bool, row: u32, theirs: u32) -> u32
+    ensures { λ r. ⌜ Kept stays row theirs r ⌝ }
+{
+    if stays { masks::both(row, theirs) } else { 0 }
+}
+
+// The rows of mine that are left, with those of theirs that are left. One function serves both sides.
+fn narrow(rows: [u32; 32], mine: u32, theirs: u32) -> [u32; 32]
+    ensures { λ r. ⌜ Narrow 32 rows mine theirs r ⌝ }
 {
     let mut rest = rows;
-    let mut k: usize = 0;
-    while k < 32 {
-        rest[k] = masks::minus(rest[k], gone);
-        k += 1;
-    }
-    rest
-}
-
-// Row i goes, and the ports of `gone` leave the other rows. An i of 32 or more is no row.
-fn strike(rows: [u32; 32], i: u32, gone: u32) -> [u32; 32]
-    ensures { λ r. ⌜ Stricken rows i gone r ⌝ }
-{
-    let mut rest = thin(rows, gone);
-    if i < 32 {
+    let mut i: u32 = 0;
+    while i < 32 {
         let k = i as usize;
-        rest[k] = 0;
+        rest[k] = kept(masks::has(mine, i), rest[k], theirs);
+        i += 1;
     }
     rest
 }
 
-// What is left of p without input i and output j; with j of 32 or more, without input i alone.
-pub fn without(p: Problem, i: u32, j: u32) -> Problem
-    requires { ⌜ (Sound p) × (i < 32) ⌝ }
-    ensures { λ r. ⌜ WithoutPair p i j r ⌝ }
+// What is left of the whole problem for these inputs and outputs.
+pub fn left_of(all: Problem, ins: u32, outs: u32) -> Problem
+    requires { ⌜ Sound all ⌝ }
+    ensures { λ r. ⌜ LeftOf all ins outs r ⌝ }
 {
-    let old_rows = p.rows;
-    let old_cols = p.cols;
-    let rows = strike(old_rows, i, masks::with(0, j));
-    let cols = strike(old_cols, j, masks::with(0, i));
-    let ins = masks::without(p.ins, i);
-    let outs = masks::without(p.outs, j);
+    let all_rows = all.rows;
+    let all_cols = all.cols;
+    let rows = narrow(all_rows, ins, outs);
+    let cols = narrow(all_cols, outs, ins);
     Problem {
         rows,
         cols,

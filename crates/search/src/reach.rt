@@ -82,7 +82,7 @@ fn step(rows: [u32; 32], p: Pairing, s: Search) -> Search
     let queue = s.queue;
     let theirs = p.theirs;
     let x = pairing::get(queue, s.at);
-    let fresh = masks::minus(pairing::word(rows, x), s.outs);
+    let fresh = masks::minus(pairing::word(&rows, x), s.outs);
     if fresh == 0 {
         return pass(s);
     }

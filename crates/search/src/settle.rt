@@ -12,7 +12,7 @@ ghost use Rattle.search.specs.Pair.{Paired};
 ghost use Rattle.search.specs.Stage.{wants};
 ghost use Rattle.search.specs.Augment.{any};
 ghost use Rattle.search.specs.Exchange.{Giving, Exchanged};
-ghost use Rattle.search.specs.Settle.{Lighter, Lightest, Queue, Attempted, Visited, Swept, Settled, Outside};
+ghost use Rattle.search.specs.Settle.{Lighter, Lightest, Queue, Visited, Swept, Settled, Outside};
 
 // The one at h of the queue gives its place to the first.
 fn exchange(p: Pairing, s: Search, h: u32) -> Pairing
@@ -32,8 +32,8 @@ fn lighter(weights: [u32; 32], queue: [u8; 32], a: u32, b: u32) -> u32
     requires { ⌜ (a < 32) × (b < 32) × (at queue a < 32) × (at queue b < 32) ⌝ }
     ensures { λ r. ⌜ Lighter (at weights) (at queue) a b r ⌝ }
 {
-    let x = pairing::word(weights, pairing::get(queue, a));
-    let y = pairing::word(weights, pairing::get(queue, b));
+    let x = pairing::word(&weights, pairing::get(queue, a));
+    let y = pairing::word(&weights, pairing::get(queue, b));
     if y < x { b } else { a }
 }
 
@@ -51,75 +51,55 @@ fn lightest(weights: [u32; 32], queue: [u8; 32], len: u32) -> u32
     best
 }
 
-// What a try comes to.
-pub struct Tried {
-    pub changed: bool,
-    pub pairing: Pairing,
-}
-
 // A place for u, which has none: a free one, or that of one that weighs less.
-fn attempt(rows: [u32; 32], weights: [u32; 32], p: Pairing, u: u32) -> Tried
+fn attempt(rows: [u32; 32], weights: [u32; 32], p: Pairing, u: u32) -> Pairing
     requires { ⌜ Paired (wants rows) p ⌝ }
     requires { ⌜ (u < 32) × (32 ≤ at (p .mine) u) ⌝ }
-    ensures { λ r. ⌜ Attempted rows weights p u r ⌝ }
+    ensures { λ r. ⌜ Visited rows weights p u r ⌝ }
 {
     let s = reach::reach(rows, p, u);
     if s.found < 32 {
-        return Tried {
-            changed: true,
-            pairing: reach::augment(p, s, s.at, s.found),
-        };
+        return reach::augment(p, s, s.at, s.found);
     }
     let queue = s.queue;
     let h = lightest(weights, queue, s.len);
     let x = pairing::get(queue, h);
-    if pairing::word(weights, x) < pairing::word(weights, u) {
-        return Tried {
-            changed: true,
-            pairing: exchange(p, s, h),
-        };
+    if pairing::word(&weights, x) < pairing::word(&weights, u) {
+        return exchange(p, s, h);
     }
-    Tried {
-        changed: false,
-        pairing: p,
-    }
+    p
 }
 
 // u is tried if it has no partner.
-fn visit(rows: [u32; 32], weights: [u32; 32], t: Tried, u: u32) -> Tried
-    requires { ⌜ Paired (wants rows) (t .pairing) ⌝ }
+fn visit(rows: [u32; 32], weights: [u32; 32], p: Pairing, u: u32) -> Pairing
+    requires { ⌜ Paired (wants rows) p ⌝ }
     requires { ⌜ u < 32 ⌝ }
-    ensures { λ r. ⌜ Visited rows weights t u r ⌝ }
+    ensures { λ r. ⌜ Visited rows weights p u r ⌝ }
 {
-    let p = t.pairing;
     let mine = p.mine;
     if pairing::get(mine, u) < 32 {
-        return t;
+        return p;
     }
-    let a = attempt(rows, weights, p, u);
-    if a.changed { a } else { t }
+    attempt(rows, weights, p, u)
 }
 
 // Each of mine that asks and has no partner is tried once.
-fn sweep(rows: [u32; 32], weights: [u32; 32], p: Pairing, asking: u32) -> Tried
+fn sweep(rows: [u32; 32], weights: [u32; 32], p: Pairing, asking: u32) -> Pairing
     requires { ⌜ Paired (wants rows) p ⌝ }
     requires { ⌜ Outside rows asking ⌝ }
     ensures { λ r. ⌜ Swept rows weights p r ⌝ }
 {
-    let mut t = Tried {
-        changed: false,
-        pairing: p,
-    };
+    let mut q = p;
     let mut left = masks::both(p.idle, asking);
     while left != 0 {
         let u = masks::first(left);
-        t = visit(rows, weights, t, u);
+        q = visit(rows, weights, q, u);
         left = masks::without(left, u);
     }
-    t
+    q
 }
 
-// Sweeps, until one changes nothing.
+// Sweeps, until one leaves the same ones idle: each change makes the idle ones weigh less, so that sweep changed nothing.
 pub fn settle(rows: [u32; 32], weights: [u32; 32], p: Pairing, asking: u32) -> Pairing
     requires { ⌜ Paired (wants rows) p ⌝ }
     requires { ⌜ Outside rows asking ⌝ }
@@ -127,9 +107,9 @@ pub fn settle(rows: [u32; 32], weights: [u32; 32], p: Pairing, asking: u32) -> P
 {
     let mut q = p;
     loop {
-        let t = sweep(rows, weights, q, asking);
-        q = t.pairing;
-        if !t.changed {
+        let idle = q.idle;
+        q = sweep(rows, weights, q, asking);
+        if q.idle == idle {
             return q;
         }
     }

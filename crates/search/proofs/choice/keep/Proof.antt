@@ -1,13 +1,19 @@
 -- `search::choice::keep` meets its contract. Assumes nothing.
-use native.Mathlib.Numerals.{add-one}
-use mathlib.Core.Path.{refl}
-use Rattle.search.specs.First.{keeps-output, keeps-none}
+use mathlib.Core.Path.{refl, ap, _∙_}
+use native.Mathlib.Omega.{arith}
+use mathlib.Core.List.{List}
+use Prim.Native.Nat.{ℕ}
+use lib.ListN.{set}
+use Rattle.card.specs.Paper.{out}
 use borrow.Author.Needs.{needs}
 use Rattle.search.proofs.choice.keep.Statement.{statement}
 use Rattle.search.proofs.choice.keep.Tie as tie
 
 without-requires : tie.Need-without-requires
 without-requires c κs = search needs
+
+without-requires-2 : tie.Need-without-requires-2
+without-requires-2 c κs = search needs
 
 unlink-requires : tie.Need-unlink-requires
 unlink-requires c κs = search needs
@@ -20,17 +26,30 @@ with-partner-requires c κs = search needs
 
 returns : tie.Need-returns
 returns c =
-    λ rows h pl. rw add-one (keeps-output rows _ _ _ _ (c .before .before .before .before .before .before .before .before .pre .0) h pl _ (c .before .before .before .before .before .before .before .before .pre .1) (c .before .before .before .if1 .taken) _ (c .before .before .before .before .without .ensures) (c .before .before .unlink .ensures) (c .before .weigh .ensures .0) (c .before .weigh .ensures .1) (c .with-partner .ensures))
+    let e = c .before .before .before .before .before .before .before .before .pre .1 in
+    record {
+      ins-less = c .before .before .before .before .before .without .ensures;
+      outs-less = rw e at (c .before .before .before .before .without2 .ensures);
+      matched = λ _. record { unlinked = c .before .before .unlink .ensures; weighs = c .before .weigh .ensures .0; small = c .before .weigh .ensures .1; partners = rw e at (c .with-partner .ensures) };
+      idle = λ g. absurd (omega (arith, c .before .before .before .if1 .taken));
+    }
 
 returns-2 : tie.Need-returns-2
 returns-2 c =
-    λ rows h pl. rw add-one (keeps-none rows _ _ _ _ (c .before .before .before .before .before .pre .0) h pl _ (c .before .before .before .before .before .pre .1) (c .if1 .left) _ (c .before .without .ensures) refl refl refl)
+    let e = c .before .before .before .before .before .pre .1 in
+    record {
+      ins-less = c .before .before .without .ensures;
+      outs-less = rw e at (c .before .without2 .ensures);
+      matched = λ l. absurd (omega (arith, c .if1 .left));
+      idle = λ _. record { pairing = refl; weight = refl; partners = refl };
+    }
 
 pub keep-spec : {M : Type 1} → statement M
 keep-spec =
     tie.close
     (tie.spec
     without-requires
+    without-requires-2
     unlink-requires
     weigh-requires
     with-partner-requires

@@ -7,7 +7,7 @@ use Rattle.search.proofs.choice.place.Statement.{statement}
 use Rattle.search.proofs.choice.place.Tie as tie
 
 returns : tie.Need-returns
-returns c = λ rows e h. rw add-one (skip-state rows _ _ _ _ (c .before .pre .0) (sym e ∙ c .if1 .taken) h)
+returns c = λ rows e h. rw add-one (skip-state _ rows _ _ _ _ (c .before .pre .0) (sym e ∙ c .if1 .taken) h)
 
 fix-requires : tie.Need-fix-requires
 fix-requires c κs = search needs

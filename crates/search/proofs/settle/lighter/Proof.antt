@@ -18,11 +18,11 @@ word-requires-2 c κs = search needs
 
 returns : tie.Need-returns
 returns c =
-    lighter-b _ _ _ _ _ _ _ _ (c .before .before .before .before .get .ensures) (c .before .before .before .word .ensures) (c .before .before .get2 .ensures) (c .before .word2 .ensures) (c .if1 .taken)
+    lighter-b _ _ _ _ _ _ _ _ (c .before .before .before .before .before .get .ensures) (c .before .before .before .before .word .ensures) (c .before .before .get2 .ensures) (c .before .word2 .ensures) (c .if1 .taken)
 
 returns-2 : tie.Need-returns-2
 returns-2 c =
-    lighter-a _ _ _ _ _ _ _ _ (c .before .before .before .before .get .ensures) (c .before .before .before .word .ensures) (c .before .before .get2 .ensures) (c .before .word2 .ensures) (c .if1 .left)
+    lighter-a _ _ _ _ _ _ _ _ (c .before .before .before .before .before .get .ensures) (c .before .before .before .before .word .ensures) (c .before .before .get2 .ensures) (c .before .word2 .ensures) (c .if1 .left)
 
 pub lighter-spec : {M : Type 1} → statement M
 lighter-spec =

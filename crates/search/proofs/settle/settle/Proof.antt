@@ -1,6 +1,5 @@
 -- `search::settle::settle` meets its contract. The measure: what those without a partner weigh, and one more each. Assumes nothing.
-use borrow.Author.Tests.{not-true, not-false}
-use Rattle.search.specs.Settle.{Come, come-more, come-end, lossOf}
+use Rattle.search.specs.Settle.{Come, come-more, come-less, come-end, lossOf}
 use Rattle.search.proofs.settle.settle.Statement.{statement}
 use Rattle.search.proofs.settle.settle.Tie as tie
 
@@ -17,13 +16,13 @@ sweep-requires : tie.Need-sweep-requires Inv-loop μ-loop
 sweep-requires c κs = (c .loop .inv .paired, c .before .pre .1)
 
 returns : tie.Need-returns Inv-loop μ-loop
-returns c = come-end _ _ _ _ _ (c .before .before .before .before .loop .inv) (c .before .before .before .sweep .ensures) (not-true _ (c .if1 .taken))
+returns c = come-end _ _ _ _ _ (c .before .before .before .loop .inv) (c .before .before .sweep .ensures) (c .if1 .taken)
 
 loop-less : tie.Need-loop-less Inv-loop μ-loop
-loop-less c = c .before .before .before .sweep .ensures .fell (not-false _ (c .if1 .left))
+loop-less c = come-less _ _ _ _ _ (c .before .before .before .loop .inv) (c .before .before .sweep .ensures) (c .if1 .left)
 
 loop-again : tie.Need-loop-again Inv-loop μ-loop
-loop-again c = come-more _ _ _ _ _ (c .before .before .before .before .loop .inv) (c .before .before .before .sweep .ensures)
+loop-again c = come-more _ _ _ _ _ (c .before .before .before .loop .inv) (c .before .before .sweep .ensures)
 
 pub settle-spec : {M : Type 1} → statement M
 settle-spec =

@@ -8,10 +8,10 @@ use Rattle.search.proofs.settle.sweep.Statement.{statement}
 use Rattle.search.proofs.settle.sweep.Tie as tie
 
 abbrev Inv-loop : tie.InvT-loop
-Inv-loop rows weights asking t₀ left₀ t left = Passing rows weights (t₀ .pairing) t left
+Inv-loop rows weights asking q₀ left₀ q left = Passing rows weights q₀ q left
 
 abbrev μ-loop : tie.MeasureT-loop
-μ-loop rows weights asking t₀ left₀ t left = sum 32 (bit left)
+μ-loop rows weights asking q₀ left₀ q left = sum 32 (bit left)
 
 both-requires : tie.Need-both-requires Inv-loop μ-loop
 both-requires c κs = search needs

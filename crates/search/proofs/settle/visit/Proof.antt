@@ -1,6 +1,6 @@
 -- `search::settle::visit` meets its contract. Assumes nothing.
 use native.Mathlib.Omega.{arith}
-use Rattle.search.specs.Settle.{visit-had, visit-won, visit-lost}
+use Rattle.search.specs.Settle.{visit-had}
 use borrow.Author.Needs.{needs}
 use Rattle.search.proofs.settle.visit.Statement.{statement}
 use Rattle.search.proofs.settle.visit.Tie as tie
@@ -9,16 +9,13 @@ get-requires : tie.Need-get-requires
 get-requires c κs = search needs
 
 returns : tie.Need-returns
-returns c = visit-had _ _ _ _ (c .before .before .before .before .pre .0) (omega (arith, c .before .get .ensures))
+returns c = visit-had _ _ _ _ (c .before .before .before .pre .0) (omega (arith, c .before .get .ensures))
 
 attempt-requires : tie.Need-attempt-requires
 attempt-requires c κs = search needs
 
 returns-2 : tie.Need-returns-2
-returns-2 c = visit-won _ _ _ _ (c .before .before .before .before .before .before .pre .0) _ (c .before .attempt .ensures) (c .if2 .taken)
-
-returns-3 : tie.Need-returns-3
-returns-3 c = visit-lost _ _ _ _ (c .before .before .before .before .before .before .pre .0) _ (c .before .attempt .ensures) (c .if2 .left)
+returns-2 c = c .attempt .ensures
 
 pub visit-spec : {M : Type 1} → statement M
-visit-spec = tie.close (tie.spec get-requires returns attempt-requires returns-2 returns-3)
+visit-spec = tie.close (tie.spec get-requires returns attempt-requires returns-2)
