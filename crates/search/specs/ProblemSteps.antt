@@ -18,7 +18,7 @@ use Rattle.matches.specs.Paper.{at, tab, asks, mask, inAsks}
 use Rattle.matches.specs.Lists.{getD-tab}
 use Rattle.matches.specs.Table.{bit-mask, mask-lt}
 use Rattle.search.specs.declared.problem.Problem.{Problem}
-use Rattle.search.specs.Problem.{Columns, Asking, Sound, Struck, WithoutPair, LeftOf}
+use Rattle.search.specs.Problem.{Asking, Sound, WithoutPair, LeftOf}
 
 -- ---- COLUMNS
 

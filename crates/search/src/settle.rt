@@ -5,6 +5,7 @@ use super::pairing::Pairing;
 use super::reach;
 use super::reach::Search;
 ghost use mathlib.Core.Path.{_≡_};
+ghost use mathlib.Core.Bool.{true, false};
 ghost use Prim.Native.Nat.{ℕ, _<_, _≤_};
 ghost use Rattle.masks.specs.Paper.{bit};
 ghost use Rattle.matches.specs.Paper.{at};
@@ -28,13 +29,21 @@ fn exchange(p: Pairing, s: Search, h: u32) -> Pairing
     reach::augment(pairing::unlink(p, x), s, last, out)
 }
 
+// Whether x weighs less than y.
+fn less(weights: [u32; 32], x: u32, y: u32) -> bool
+    requires { ⌜ (x < 32) × (y < 32) ⌝ }
+    ensures { λ r. ⌜ (r ≡ true → at weights x < at weights y) × (r ≡ false → at weights y ≤ at weights x) ⌝ }
+{
+    pairing::word(&weights, x) < pairing::word(&weights, y)
+}
+
 fn lighter(weights: [u32; 32], queue: [u8; 32], a: u32, b: u32) -> u32
     requires { ⌜ (a < 32) × (b < 32) × (at queue a < 32) × (at queue b < 32) ⌝ }
     ensures { λ r. ⌜ Lighter (at weights) (at queue) a b r ⌝ }
 {
-    let x = pairing::word(&weights, pairing::get(queue, a));
-    let y = pairing::word(&weights, pairing::get(queue, b));
-    if y < x { b } else { a }
+    let x = pairing::get(queue, a);
+    let y = pairing::get(queue, b);
+    if less(weights, y, x) { b } else { a }
 }
 
 // The place in the queue of one that weighs least.
@@ -64,7 +73,7 @@ fn attempt(rows: [u32; 32], weights: [u32; 32], p: Pairing, u: u32) -> Pairing
     let queue = s.queue;
     let h = lightest(weights, queue, s.len);
     let x = pairing::get(queue, h);
-    if pairing::word(&weights, x) < pairing::word(&weights, u) {
+    if less(weights, x, u) {
         return exchange(p, s, h);
     }
     p

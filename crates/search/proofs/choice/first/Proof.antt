@@ -1,5 +1,4 @@
 -- `search::choice::first` meets its contract. The invariant: the inputs below i have the partners of `best`. Assumes nothing.
-use native.Mathlib.Omega.{arith}
 use borrow.Author.Needs.{needs}
 use Prim.Native.Nat.{_≤_, _-_}
 use mathlib.Core.Path.{refl}

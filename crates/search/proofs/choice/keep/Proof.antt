@@ -1,10 +1,6 @@
 -- `search::choice::keep` meets its contract. Assumes nothing.
-use mathlib.Core.Path.{refl, ap, _∙_}
+use mathlib.Core.Path.{refl}
 use native.Mathlib.Omega.{arith}
-use mathlib.Core.List.{List}
-use Prim.Native.Nat.{ℕ}
-use lib.ListN.{set}
-use Rattle.card.specs.Paper.{out}
 use borrow.Author.Needs.{needs}
 use Rattle.search.proofs.choice.keep.Statement.{statement}
 use Rattle.search.proofs.choice.keep.Tie as tie

@@ -1,5 +1,4 @@
 -- `search::problem::narrow` meets its contract. The invariant: the rows passed are narrowed. Assumes nothing.
-use mathlib.Core.Path.{sym}
 use borrow.Author.Needs.{needs}
 use native.Mathlib.Omega.{arith}
 use mathlib.Core.Path.{_≡_, refl}
