@@ -159,7 +159,7 @@ fn u32_at(bytes: &[u8], at: usize) -> u32 {
     }
     let low = u16_at(bytes, at) as u32;
     let high = u16_at(bytes, at + 2) as u32;
-    low | high << 16
+    low + high * 65536
 }
 
 // The count at a place, and 0 past the end.
@@ -170,10 +170,12 @@ fn u16_at(bytes: &[u8], at: usize) -> u16 {
     if bytes.len() - 2 < at {
         return 0;
     }
-    wide(bytes[at]) | wide(bytes[at + 1]) << 8
+    wide(bytes[at]) + wide(bytes[at + 1]) * 256
 }
 
 // A byte as a wider number.
-fn wide(byte: u8) -> u16 {
+fn wide(byte: u8) -> u16
+    ensures { λ r. ⌜ r ≤ 255 ⌝ }
+{
     byte as u16
 }
