@@ -96,6 +96,17 @@ fn found(partners: &[u16], weight: u32) -> Want {
 
 /// The same requests as a weighted match and as a rank form, with the same refusal (0 for none).
 fn both(m: u32, n: u32, requests: &Requests, refusal: u32) -> Vec<Case> {
+    each(
+        m,
+        n,
+        requests,
+        Want::Refusal(refusal),
+        Want::Refusal(refusal),
+    )
+}
+
+/// The same requests as a weighted match and as a rank form, with what each must answer.
+fn each(m: u32, n: u32, requests: &Requests, matched: Want, ranked: Want) -> Vec<Case> {
     let weighted = Problem::Weighted {
         m,
         n,
@@ -106,10 +117,7 @@ fn both(m: u32, n: u32, requests: &Requests, refusal: u32) -> Vec<Case> {
         n,
         requests: requests.clone(),
     };
-    vec![
-        case(weighted, Want::Refusal(refusal)),
-        case(rank, Want::Refusal(refusal)),
-    ]
+    vec![case(weighted, matched), case(rank, ranked)]
 }
 
 /// Every line of the bench table that is about a match.
@@ -299,17 +307,7 @@ fn ignored_weights() -> Vec<Case> {
             inputs: vec![2, 0, 1],
             outputs: vec![1, 0, 2],
         };
-        let weighted = Problem::Weighted {
-            m: 3,
-            n: 3,
-            requests: given.clone(),
-        };
-        let rank = Problem::Rank {
-            m: 3,
-            n: 3,
-            requests: given,
-        };
-        [case(weighted, found(&[0, NONE, 2], 27)), case(rank, ranks)]
+        each(3, 3, &given, found(&[0, NONE, 2], 27), ranks)
     };
     [0, 5, u32::MAX].map(made).concat()
 }
@@ -325,20 +323,7 @@ fn greatest_weights() -> Vec<Case> {
         inputs: vec![1; PORTS],
         outputs: vec![1; PORTS],
     };
-    let weighted = Problem::Weighted {
-        m: 32,
-        n: 32,
-        requests: all.clone(),
-    };
-    let rank = Problem::Rank {
-        m: 32,
-        n: 32,
-        requests: all,
-    };
-    vec![
-        case(weighted, found(&straight, 134_215_680)),
-        case(rank, ranks),
-    ]
+    each(32, 32, &all, found(&straight, 134_215_680), ranks)
 }
 
 fn weighted_fault_pairs() -> Vec<Case> {

@@ -11,6 +11,18 @@ use std::fmt::Debug;
 /// Differences printed in full per group.
 const SHOWN: u32 = 5;
 
+/// Cards of a size just outside a limit, or far outside: M, N, D.
+const REFUSED_SIZES: [(u32, u32, u32); 8] = [
+    (0, 1, 1),
+    (33, 1, 1),
+    (1, 0, 1),
+    (1, 33, 1),
+    (1, 1, 0),
+    (1, 1, 65),
+    (65_537, 1, 1),
+    (1, 1, 65_537),
+];
+
 /// A group of checks with the number made and the number that differed.
 pub struct Group {
     name: &'static str,

@@ -1,6 +1,6 @@
 //! Checks of the slot log: round trips, refusals in their order, reading one slot, and the writer.
 
-use super::Group;
+use super::{Group, REFUSED_SIZES};
 use crate::card::{Arrivals, NONE};
 use crate::log::{check, read, trailer, write, Checked, Head, SlotRead, Slots, MOST_BYTES};
 use crate::random::Random;
@@ -322,15 +322,7 @@ pub fn writer(group: &mut Group) {
 }
 
 fn writer_limits(group: &mut Group) {
-    for (m, n, d) in [
-        (0, 1, 1),
-        (33, 1, 1),
-        (1, 0, 1),
-        (1, 33, 1),
-        (1, 1, 0),
-        (1, 1, 65),
-        (65_537, 1, 1),
-    ] {
+    for (m, n, d) in REFUSED_SIZES {
         let mut slots = idle(1, 1, 1, 1);
         (slots.m, slots.n, slots.d) = (m, n, d);
         refused_write(group, "card", &slots, 100, 1);

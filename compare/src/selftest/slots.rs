@@ -2,7 +2,7 @@
 //! (cell, stamp) that grow and shrink, with the match by brute force.
 
 use super::brute::{best_match, table_weights};
-use super::Group;
+use super::{Group, REFUSED_SIZES};
 use crate::card::{Arrivals, NONE, PORTS, QUEUES};
 use crate::random::Random;
 use crate::slot::{fresh, slot, Lists, Record, Report};
@@ -133,17 +133,7 @@ pub fn fresh_cards(group: &mut Group) {
             Lists::filled((m * n * d) as usize, 0),
         );
     }
-    let limits = [
-        (0, 1, 1),
-        (33, 1, 1),
-        (1, 0, 1),
-        (1, 33, 1),
-        (1, 1, 0),
-        (1, 1, 65),
-        (65_537, 1, 1),
-        (1, 1, 65_537),
-    ];
-    for (m, n, d) in limits {
+    for (m, n, d) in REFUSED_SIZES {
         refused_fresh(group, (m, n, d), Lists::filled(1, 9), 1);
         refused_fresh(group, (m, n, d), Lists::filled(7, 9), 1);
     }
