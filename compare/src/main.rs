@@ -8,6 +8,7 @@ mod log;
 mod matching;
 mod random;
 mod replay;
+mod samples;
 mod selftest;
 mod slot;
 mod vectors;
@@ -17,7 +18,8 @@ use std::io::Write;
 use std::path::Path;
 use std::process::ExitCode;
 
-const USAGE: &str = "compare replay FILE | compare selftest | compare vectors DIR | compare time";
+const USAGE: &str =
+    "compare replay FILE | compare selftest | compare vectors DIR | compare logs DIR | compare time";
 
 fn main() -> ExitCode {
     let words: Vec<String> = std::env::args().skip(1).collect();
@@ -25,7 +27,8 @@ fn main() -> ExitCode {
     match words[..] {
         ["replay", file] => replay_file(file),
         ["selftest"] => selftest_all(),
-        ["vectors", directory] => write_vectors(directory),
+        ["vectors", directory] => said(directory, vectors::write(Path::new(directory))),
+        ["logs", directory] => said(directory, vectors::write_samples(Path::new(directory))),
         ["time"] => time_matches(),
         _ => fault(USAGE),
     }
@@ -56,10 +59,11 @@ fn selftest_all() -> ExitCode {
     }
 }
 
-fn write_vectors(directory: &str) -> ExitCode {
-    match vectors::write(Path::new(directory)) {
-        Ok((cases, text)) => {
-            println!("stdin {cases} bytes, stdout {text} bytes");
+/// What was written, or why not.
+fn said(directory: &str, written: std::io::Result<String>) -> ExitCode {
+    match written {
+        Ok(text) => {
+            print!("{text}");
             ExitCode::SUCCESS
         }
         Err(error) => fault(&format!("{directory}: {error}")),

@@ -11,6 +11,8 @@
 
 use crate::cases::{all, Problem};
 use crate::matching::{rank_form, table_match, weighted_match, Match, RankForm, Requests};
+use crate::replay::replay;
+use crate::samples::{all as all_samples, example, log_of, small_runs, Sample};
 use std::fs;
 use std::io;
 use std::path::Path;
@@ -18,17 +20,61 @@ use std::path::Path;
 /// The most bytes of the file of cases.
 const MOST_BYTES: usize = 60_000;
 
-/// Writes the files `stdin` and `stdout` into the directory; answers their lengths.
-pub fn write(directory: &Path) -> io::Result<(usize, usize)> {
-    let (cases, text) = (case_bytes(), case_lines());
+/// Writes what each of the gate's programs reads and must print, below this directory: `bench` the
+/// cases, `replay` the worked example, and `replays` all sample logs. Answers a line for each.
+pub fn write(directory: &Path) -> io::Result<String> {
+    let cases = case_bytes();
     assert!(
         cases.len() <= MOST_BYTES,
         "the cases are longer than their limit"
     );
+    let example = log_of(&example());
+    let text = replay(&example);
+    Ok([
+        write_program(&directory.join("bench"), &cases, &case_lines())?,
+        write_program(&directory.join("replay"), &example, &text)?,
+        write_program(&directory.join("replays"), &sample_bytes(), &sample_lines())?,
+    ]
+    .concat())
+}
+
+fn write_program(directory: &Path, input: &[u8], text: &str) -> io::Result<String> {
     fs::create_dir_all(directory)?;
-    fs::write(directory.join("stdin"), &cases)?;
-    fs::write(directory.join("stdout"), &text)?;
-    Ok((cases.len(), text.len()))
+    fs::write(directory.join("stdin"), input)?;
+    fs::write(directory.join("stdout"), text)?;
+    let (read, written) = (input.len(), text.len());
+    Ok(format!(
+        "{}: stdin {read} bytes, stdout {written} bytes\n",
+        directory.display()
+    ))
+}
+
+/// Writes each small sample log that is run into the directory, and its replay beside it.
+pub fn write_samples(directory: &Path) -> io::Result<String> {
+    fs::create_dir_all(directory)?;
+    let samples = small_runs();
+    for sample in &samples {
+        fs::write(directory.join(format!("{}.log", sample.name)), &sample.log)?;
+        let text = replay(&sample.log);
+        fs::write(directory.join(format!("{}.txt", sample.name)), text)?;
+    }
+    Ok(format!("{} logs with their replays\n", samples.len()))
+}
+
+/// All sample logs, each behind its length.
+fn sample_bytes() -> Vec<u8> {
+    let behind_length = |sample: &Sample| {
+        let length = sample.log.len() as u32;
+        [length.to_le_bytes().to_vec(), sample.log.clone()].concat()
+    };
+    all_samples().iter().flat_map(behind_length).collect()
+}
+
+fn sample_lines() -> String {
+    all_samples()
+        .iter()
+        .map(|sample| replay(&sample.log))
+        .collect()
 }
 
 /// All cases as bytes.

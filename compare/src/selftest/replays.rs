@@ -1,9 +1,9 @@
 //! Checks of the replay: the worked example byte for byte, and the limits.
 
 use super::Group;
-use crate::card::NONE;
-use crate::log::{trailer, write, Slots, MOST_BYTES};
+use crate::log::{trailer, Slots, MOST_BYTES};
 use crate::replay::replay;
+use crate::samples::{self, log_of};
 
 const EXAMPLE: &str = "\
 S 0 1 3 0 0>0:10/0
@@ -14,27 +14,8 @@ S 4 1 4 0 1>0:20/4
 T 7 6 1 5 1
 ";
 
-fn example_slots() -> Slots {
-    Slots {
-        m: 2,
-        n: 2,
-        d: 2,
-        holds: vec![0, 0, 1, 1, 0],
-        outputs: vec![0, 0, 0, 1, 1, 0, NONE, 0, NONE, NONE],
-        cells: vec![10, 20, 11, 21, 12, 22, 0, 23, 0, 0],
-    }
-}
-
-fn log_of(slots: &Slots) -> Vec<u8> {
-    let mut buffer = vec![0; MOST_BYTES];
-    let (refusal, length) = write(slots, &mut buffer);
-    assert_eq!(refusal, 0, "the writer takes these slots");
-    buffer.truncate(length as usize);
-    buffer
-}
-
 pub fn example(group: &mut Group) {
-    let log = log_of(&example_slots());
+    let log = log_of(&samples::example());
     let ending = [0x50, 0, 0, 0, 2, 0, 2, 0, 2, 0, 5, 0, 0, 0, 0x4C, 0x50];
     group.equal("trailer", &log[80..], &ending);
     group.equal("text", replay(&log).as_str(), EXAMPLE);

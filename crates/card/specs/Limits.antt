@@ -8,7 +8,7 @@ use borrow.Author.Tests.{leb-true, le-leb}
 use Rattle.masks.specs.Tests.{and-true, and-both}
 use Rattle.card.specs.declared.Verdict.{Verdict}
 use Rattle.card.specs.declared.Verdict.the-variants.{Accepted, Size, Length, Hold, Arrival, Row, Weight, Record, Log, Back, Buffer, Slot}
-use Rattle.card.specs.Paper.{ports, within, portsFit, numberOf}
+use Rattle.card.specs.Paper.{ports, depth, within, portsFit, cardFits, numberOf}
 
 pub record Within (most x : ℕ) : Type 0 where
   pub low : 1 ≤ x
@@ -31,6 +31,18 @@ ports-are m n e = let h = and-both _ _ e in record { ins = within-is ports m (h 
 pub are-ports : (m n : ℕ) → Ports m n → portsFit m n ≡ true
 unfolding portsFit
 are-ports m n h = and-true (is-within ports m (h .ins)) (is-within ports n (h .outs))
+
+pub record Sizes (m n d : ℕ) : Type 0 where
+  pub ports : Ports m n
+  pub deep : Within depth d
+
+pub sizes-are : (m n d : ℕ) → cardFits m n d ≡ true → Sizes m n d
+unfolding cardFits
+sizes-are m n d e = let h = and-both _ _ e in record { ports = ports-are m n (h .0); deep = within-is depth d (h .1) }
+
+pub are-sizes : (m n d : ℕ) → Sizes m n d → cardFits m n d ≡ true
+unfolding cardFits
+are-sizes m n d h = and-true (are-ports m n (h .ports)) (is-within depth d (h .deep))
 
 -- the verdicts by number
 verdicts : List Verdict

@@ -1,10 +1,12 @@
 -- Document 01, "The card", and the tests of "What is said no to" that matching, slot and log share. This file is what a reader must believe.
 -- Assumes nothing. `leb`, `ltb` and `eqb` are the tests ≤, < and = on numbers.
 use mathlib.Core.Bool.{Bool, true, false, cond, not, _&&_, _||_}
-use Prim.Native.Nat.{ℕ}
+use Prim.Native.Nat.{ℕ, _+_, _*_, _%_, _^_}
 use lib.ListN.{getD, replicate}
 use lib.Dec.{leb, ltb, eqb}
 use Rattle.masks.specs.Paper.{has, every}
+use Rattle.card.specs.declared.Card.{Card}
+use Rattle.card.specs.declared.Counters.{Counters}
 use Rattle.card.specs.declared.Out.{Out}
 use Rattle.card.specs.declared.Arrivals.{Arrivals}
 use Rattle.card.specs.declared.Verdict.{Verdict}
@@ -23,6 +25,25 @@ depth = 64
 -- "65535 in place of an output means 'none'"
 abbrev pub none : ℕ
 none = 65535
+
+-- "queue (i, j) has index i·N + j"
+abbrev pub index : Card → (i j : ℕ) → ℕ
+index c i j = i * c .n + j
+
+-- COUNTERS: "Counters run modulo 4,294,967,296"; the slot number grows by 1, "modulo the same"
+
+abbrev pub next : ℕ → ℕ
+next x = (x + 1) % 2 ^ 32
+
+-- "Each arrival .. counts as offered", whether it is stored or dropped
+abbrev pub oneStored : Counters → Counters
+oneStored c = record { offered = next (c .offered); stored = next (c .stored); dropped = c .dropped; departed = c .departed }
+
+abbrev pub oneDropped : Counters → Counters
+oneDropped c = record { offered = next (c .offered); stored = c .stored; dropped = next (c .dropped); departed = c .departed }
+
+abbrev pub oneDeparted : Counters → Counters
+oneDeparted c = record { offered = c .offered; stored = c .stored; dropped = c .dropped; departed = next (c .departed) }
 
 -- WHAT ARRIVES: "Arrivals go in as one value, 32 outputs and 32 cells, none with 0 where nothing arrives". Each list has 32 entries: no default is read
 

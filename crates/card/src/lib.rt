@@ -1,7 +1,8 @@
-// The card: its limits, its port numbers, what arrives in a slot, the refusals, and the tests of sizes, masks and arrivals that matching, slot and log share.
+// The card: its limits, its port numbers, what arrives in a slot, its counters, the refusals, and the tests of sizes, masks and arrivals that matching,
+// slot and log share.
 ghost use mathlib.Core.Path.{_≡_};
 ghost use mathlib.Core.Bool.{_&&_};
-ghost use Rattle.card.specs.Paper.{within, portsFit, cardFits, namesBelow, arrivalFits, arrivalsFit, noArrivals, numberOf};
+ghost use Rattle.card.specs.Paper.{within, portsFit, cardFits, namesBelow, arrivalFits, arrivalsFit, noArrivals, numberOf, index, oneStored, oneDropped, oneDeparted};
 
 // M inputs, N outputs, and D cells in each queue.
 pub struct Card {
@@ -20,6 +21,14 @@ pub struct Out(pub u16);
 pub struct Arrivals {
     pub outputs: [Out; 32],
     pub cells: [u32; 32],
+}
+
+// What happened since the card was fresh, modulo 4,294,967,296.
+pub struct Counters {
+    pub offered: u32,
+    pub stored: u32,
+    pub dropped: u32,
+    pub departed: u32,
 }
 
 // What a call says of its arguments: accepted, or the refusal that document 01 numbers 1 to 11, in its order.
@@ -53,6 +62,51 @@ impl Card {
         ensures { λ r. ⌜ r ≡ cardFits (self .m) (self .n) (self .d) ⌝ }
     {
         also(ports_fit(self.m, self.n), within(Card::DEPTH, self.d))
+    }
+
+    // Queue (i, j) has index i·N + j.
+    pub fn index(self, i: In, j: Out) -> usize
+        ensures { λ r. ⌜ r ≡ index self (i .0) (j .0) ⌝ }
+    {
+        i.0 as usize * self.n as usize + j.0 as usize
+    }
+}
+
+impl Counters {
+    // One arrival more, and stored.
+    pub fn one_stored(self) -> Counters
+        ensures { λ r. ⌜ r ≡ oneStored self ⌝ }
+    {
+        Counters {
+            offered: std::num::wrapping_add_u32(self.offered, 1),
+            stored: std::num::wrapping_add_u32(self.stored, 1),
+            dropped: self.dropped,
+            departed: self.departed,
+        }
+    }
+
+    // One arrival more, and dropped.
+    pub fn one_dropped(self) -> Counters
+        ensures { λ r. ⌜ r ≡ oneDropped self ⌝ }
+    {
+        Counters {
+            offered: std::num::wrapping_add_u32(self.offered, 1),
+            stored: self.stored,
+            dropped: std::num::wrapping_add_u32(self.dropped, 1),
+            departed: self.departed,
+        }
+    }
+
+    // One cell sent.
+    pub fn one_departed(self) -> Counters
+        ensures { λ r. ⌜ r ≡ oneDeparted self ⌝ }
+    {
+        Counters {
+            offered: self.offered,
+            stored: self.stored,
+            dropped: self.dropped,
+            departed: std::num::wrapping_add_u32(self.departed, 1),
+        }
     }
 }
 

@@ -1,5 +1,6 @@
 -- The laws of `bit`. Nearly all follow from two: digit 0 is the rest by 2, and digit k + 1 of x is digit k of x / 2. Assumes nothing.
 use mathlib.Core.Path.{_≡_, refl, sym, ap, _∙_}
+use mathlib.Core.Logic.{_⊎_, inl, inr, _≢_}
 use Prim.Native.Nat.{ℕ, zero, suc, _+_, _-_, _*_, _/_, _%_, _^_, _≤_, _<_, min, max}
 use native.Mathlib.Nat.{mod-lt, div-one, pow-suc, one-mul, div-self, div-eq-of-lt, lt-of-lt-of-le}
 use native.Mathlib.Numerals.{one-add}
@@ -12,6 +13,7 @@ use lib.Pow.{pow-lt, pow-pos, pow-mono, shr-shr, shl-exact, ones-lt}
 use lib.Bits.{and-mask, bitAnd, bitOr, and-step, or-step, and-shr, or-shr}
 use lib.Count.{trailingZeros, under, trailing-le, trailing-of-zero}
 use Rattle.masks.specs.Paper.{bit, has, With, Without, Below, Lowest}
+use Rattle.masks.specs.Tests.{eq-or-ne}
 
 pub bit-lt : (x k : ℕ) → bit x k < 2
 unfolding bit
@@ -213,3 +215,24 @@ lowest-unique m r s a b = elim (decLt r s) [
     | no k ↦ omega arith
   ]
 ]
+
+-- ---- a port above those of a set: the set, as a number, grows by 2 ^ j
+
+bit-above : (j m : ℕ) → m < 2 ^ j → (k : ℕ) → bit (m + 2 ^ j) k ≡ max (bit m k) (bit (2 ^ j) k)
+bit-above zero m h k =
+    let z : m ≡ 0 = omega arith in
+    rw z (omega (arith, bit-of-zero k, ap (λ (y : ℕ). bit y k) (let o : 0 + 2 ^ 0 ≡ 2 ^ 0 = omega arith in o)))
+bit-above (suc j) m h zero = omega (arith, bit-zero (m + 2 ^ suc j), bit-zero m, bit-zero (2 ^ suc j))
+bit-above (suc j) m h (suc k) =
+    let e : (m + 2 ^ suc j) / 2 ≡ m / 2 + 2 ^ j = omega arith in
+    let g : 2 ^ suc j / 2 ≡ 2 ^ j = omega arith in
+    omega (arith, bit-suc (m + 2 ^ suc j) k, bit-suc m k, bit-suc (2 ^ suc j) k, bit-above j (m / 2) (omega arith) k, ap (λ (y : ℕ). bit y k) e, ap (λ (y : ℕ). bit y k) g)
+
+pub with-above : (m j r : ℕ) → j < 32 → m < 2 ^ j → r < 2 ^ 32 → With m j r → r ≡ m + 2 ^ j
+with-above m j r l h fits w =
+    let top : 2 ^ suc j ≤ 2 ^ 32 = pow-mono l in
+    same-bits 32 r (m + 2 ^ j) fits (omega arith) (λ k _. at k (eq-or-ne k j))
+  where
+    at : (k : ℕ) → (k ≡ j) ⊎ (k ≢ j) → bit r k ≡ bit (m + 2 ^ j) k
+    at k (inl e) = rw e (omega (arith, w .here l, bit-above j m h j, one-same j, bit-lt m j))
+    at k (inr d) = omega (arith, w .other k d, bit-above j m h k, one-other j k d)

@@ -1,12 +1,12 @@
 -- Cases on a test, what a test keeps, and a search through the numbers below a bound. Assumes nothing.
-use mathlib.Core.Path.{_≡_, refl, ap, ap₂}
+use mathlib.Core.Path.{_≡_, refl, sym, ap, ap₂, _∙_}
 use mathlib.Core.Logic.{_⊎_, inl, inr, _≢_}
 use mathlib.Core.Bool.{Bool, true, false, not, _&&_, _||_}
 use Prim.Native.Nat.{ℕ, zero, suc, _+_, _≤_, _<_}
 use native.Mathlib.Numerals.{add-one}
 use native.Mathlib.Omega.{arith}
 use lib.Dec.{ltb, eqb}
-use borrow.Author.Tests.{ltb-true, ltb-false, eqb-true, eqb-false, lt-ltb, le-ltb}
+use borrow.Author.Tests.{ltb-true, ltb-false, eqb-true, eqb-false, lt-ltb, le-ltb, not-true, not-false}
 use Rattle.masks.specs.Paper.{keep, every, some}
 
 -- ---- cases
@@ -173,3 +173,11 @@ some-at (suc n) b e = go (some-at n b) (or-either _ _ e)
     go : (some n b ≡ true → (i : ℕ) × (i < n) × (b i ≡ true)) → (some n b ≡ true) ⊎ (b n ≡ true) → (i : ℕ) × (i < suc n) × (b i ≡ true)
     go r (inl q) = (let k = r q in (k .0, omega (arith, k .1), k .2))
     go r (inr q) = (n, omega arith, q)
+
+-- ---- a test t, by its answer r in `if !r { return .. }`
+
+pub failed : (r : Bool) {t : Bool} → r ≡ t → not r ≡ true → t ≡ false
+failed r e n = sym e ∙ not-true r n
+
+pub held : (r : Bool) {t : Bool} → r ≡ t → not r ≡ false → t ≡ true
+held r e n = sym e ∙ not-false r n

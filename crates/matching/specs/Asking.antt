@@ -1,4 +1,4 @@
--- The ports that have a request, as a mask; the weights of one side, tested by such a mask; and what a refusal's test tells. Assumes nothing.
+-- The ports that have a request, as a mask; the weights of one side, tested by such a mask; and the length of a table. Assumes nothing.
 use mathlib.Core.Path.{_≡_, sym, ap, ap₂, _∙_}
 use mathlib.Core.Logic.{_⊎_, inl, inr}
 use mathlib.Core.Bool.{Bool, true, false, not, _&&_, _||_}
@@ -7,7 +7,6 @@ use Prim.Native.Nat.{ℕ, _+_, _*_, _≤_, _<_, max}
 use native.Mathlib.Nat.{mul-le-mul}
 use native.Mathlib.Numerals.{add-one}
 use native.Mathlib.Omega.{arith}
-use borrow.Author.Tests.{not-true, not-false}
 use Rattle.masks.specs.Paper.{bit, has, every, some}
 use Rattle.masks.specs.Tests.{cases, or-left, or-right, or-false, every-cong}
 use Rattle.masks.specs.Laws.{bit-lt, bit-of-zero, has-on, has-off, on-has, off-has}
@@ -60,11 +59,3 @@ weights-law rows wi wo ins outs p q = ap₂ _&&_ (side-law ins (inAsks rows) wi 
 -- 32 × 32
 pub table-small : (m n : ℕ) → portsFit m n ≡ true → m * n ≤ 1024
 table-small m n e = let h = ports-are m n e in mul-le-mul (h .ins .high) (h .outs .high)
-
--- ---- a test t, by its answer r in `if !r { return .. }`
-
-pub failed : (r : Bool) {t : Bool} → r ≡ t → not r ≡ true → t ≡ false
-failed r e n = sym e ∙ not-true r n
-
-pub held : (r : Bool) {t : Bool} → r ≡ t → not r ≡ false → t ≡ true
-held r e n = sym e ∙ not-false r n

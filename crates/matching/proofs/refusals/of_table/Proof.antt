@@ -3,7 +3,8 @@ use native.Mathlib.Omega.{arith}
 use borrow.Author.Needs.{needs}
 use borrow.Author.Tests.{eq-eqb, ne-eqb}
 use Rattle.matches.specs.Paper.{tableRefusal}
-use Rattle.matching.specs.Asking.{failed, held, table-small}
+use Rattle.masks.specs.Tests.{failed, held}
+use Rattle.matching.specs.Asking.{table-small}
 use Rattle.matching.proofs.refusals.of_table.Statement.{statement}
 use Rattle.matching.proofs.refusals.of_table.Tie as tie
 

@@ -1,7 +1,7 @@
 -- `matching::refusals::of_weights` meets its contract. Assumes nothing.
 use borrow.Author.Needs.{needs}
 use Rattle.matches.specs.Paper.{weightRefusal}
-use Rattle.matching.specs.Asking.{failed, held}
+use Rattle.masks.specs.Tests.{failed, held}
 use Rattle.matching.proofs.refusals.of_weights.Statement.{statement}
 use Rattle.matching.proofs.refusals.of_weights.Tie as tie
 

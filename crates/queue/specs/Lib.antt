@@ -1,0 +1,3 @@
+pub mod Paper
+pub mod Steps
+pub mod Order

@@ -1,0 +1,10 @@
+pub mod Paper
+pub mod Answers
+pub mod Refused
+pub mod Stretch
+pub mod Ready
+pub mod Arriving
+pub mod Sending
+pub mod Matched
+pub mod Accepted
+pub mod Fresh
