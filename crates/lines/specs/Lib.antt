@@ -1,0 +1,4 @@
+pub mod Lengths
+pub mod Paper
+pub mod Parts
+pub mod Text
