@@ -8,16 +8,7 @@ use native.Mathlib.Omega.{arith}
 use lib.ListN.{length, getD, set, length-set}
 use lib.Seq.{getD-set-same, getD-set-other}
 use Rattle.masks.specs.Tests.{lt-or-ge}
-use Rattle.queue.specs.Paper.{Ring, D, behind, stored, sent}
-
--- n entries of a list of D places from place p on, round the ring
-unfoldable pub round : (n p : ℕ) → List ℕ → List ℕ
-round zero p l = []
-round (suc n) p l = getD l (p % length l) 0 ∷ round n (suc p) l
-
--- what waits in q, the oldest first: of its cells, or of its stamps
-abbrev pub inOrder : Ring → List ℕ → List ℕ
-inOrder q l = round (q .count) (q .head) l
+use Rattle.queue.specs.Paper.{Ring, D, behind, stored, sent, round, inOrder}
 
 -- ---- places round the ring of d
 

@@ -1,8 +1,8 @@
 -- Document 01, "The card" and "One slot, in order", of one queue. This file is what a reader must believe. Assumes nothing.
 -- `ltb`, `leb` and `eqb` are the tests <, ≤ and = on numbers.
 use mathlib.Core.Bool.{Bool, cond, _&&_}
-use mathlib.Core.List.{List}
-use Prim.Native.Nat.{ℕ, _+_, _-_, _%_, _^_}
+use mathlib.Core.List.{List, [], _∷_}
+use Prim.Native.Nat.{ℕ, zero, suc, _+_, _-_, _%_, _^_}
 use lib.ListN.{length, getD, set}
 use lib.Dec.{leb, ltb, eqb}
 use Rattle.card.specs.Paper.{depth, within}
@@ -86,3 +86,12 @@ send slot q =
     cond (standing q && ltb 0 (q .count))
     (record { ring = sent q; cell = oldest q; wait = waitOf slot (oldestStamp q) })
     (record { ring = q; cell = 0; wait = 0 })
+
+-- WHAT WAITS, the oldest first: n entries of a list of D places from place p on, round the ring
+unfoldable pub round : (n p : ℕ) → List ℕ → List ℕ
+round zero p l = []
+round (suc n) p l = getD l (p % length l) 0 ∷ round n (suc p) l
+
+-- of q's cells, or of its stamps
+abbrev pub inOrder : Ring → List ℕ → List ℕ
+inOrder q l = round (q .count) (q .head) l

@@ -6,8 +6,8 @@ use Prim.Native.Nat.{ℕ, _^_, _<_}
 use lib.ListN.{length, getD}
 use Rattle.card.specs.declared.Card.{Card}
 use Rattle.card.specs.Paper.{cellAt, index}
-use Rattle.queue.specs.Paper.{Ring, stored, oldestStamp, waitOf}
-use Rattle.queue.specs.Order.{inOrder, Lane, cells-lane, stamps-lane, in-order-stored, in-order-sent, in-order-none}
+use Rattle.queue.specs.Paper.{Ring, stored, oldestStamp, waitOf, inOrder}
+use Rattle.queue.specs.Order.{Lane, cells-lane, stamps-lane, in-order-stored, in-order-sent, in-order-none}
 use Rattle.queue.specs.Steps.{wait-again}
 use Rattle.matches.specs.Paper.{at}
 use Rattle.slot.specs.Paper.{State, Stepped, queueAt, freshRefusal}

@@ -8,8 +8,7 @@ use Rattle.masks.specs.Paper.{bit, has, keep, sum}
 use Rattle.card.specs.declared.Card.{Card}
 use Rattle.card.specs.declared.Arrivals.{Arrivals}
 use Rattle.card.specs.Paper.{ports, none, outputAt, cellAt, index}
-use Rattle.queue.specs.Paper.{waitOf}
-use Rattle.queue.specs.Order.{inOrder}
+use Rattle.queue.specs.Paper.{waitOf, inOrder}
 use Rattle.matches.specs.Paper.{at, partner}
 use Rattle.slot.specs.Paper.{State, Stepped, queueAt, fresh, slot}
 

@@ -1,14 +1,18 @@
 -- The sums and the counters over any run from a fresh card, refused calls in between among them. Assumes nothing.
-use mathlib.Core.Path.{_≡_, refl, ap}
-use mathlib.Core.Logic.{_≢_}
+use mathlib.Core.Path.{_≡_, refl, sym, ap}
+use mathlib.Core.Logic.{_⊎_, inl, inr, _≢_}
 use mathlib.Core.List.{List, [], _∷_}
-use Prim.Native.Nat.{ℕ, _+_, _%_, _^_, _<_}
+use Prim.Native.Nat.{ℕ, zero, suc, _+_, _%_, _^_, _≤_, _<_}
 use native.Mathlib.Omega.{arith}
+use lib.Arith.{le-zero}
 use lib.ListN.{length}
+use Rattle.masks.specs.Paper.{sum}
+use Rattle.masks.specs.Tests.{eq-or-ne}
 use Rattle.card.specs.declared.Card.{Card}
 use Rattle.card.specs.declared.Counters.{Counters}
-use Rattle.slot.specs.Paper.{State, Stepped, freshRefusal}
-use Rattle.slot.specs.Ready.{Ready}
+use Rattle.matches.specs.Paper.{at}
+use Rattle.slot.specs.Paper.{State, Stepped, queues, freshRefusal}
+use Rattle.slot.specs.Ready.{Ready, used, used-small}
 use Rattle.runs.specs.Paper.{Call, start, answer, after, total, acceptedIn, offeredIn, storedIn, droppedIn, departedIn, waiting}
 use Rattle.runs.specs.Kept.{Keeps, answer-keeps, after-keeps, by-answer, agreed-zero}
 use Rattle.runs.specs.Start.{New, is-new, none-waits}
@@ -40,6 +44,20 @@ module _ (f : State → ℕ) (g : Call → Stepped → ℕ) (o : Counts f g) whe
 -- "a refused call in between adds nothing"
 pub adds-nothing : (s : State) (c : Call) → answer s c .refusal ≢ 0 → Nothing s c (answer s c)
 adds-nothing s c = by-answer s c (λ x. x .refusal ≢ 0 → Nothing s c x) (λ _ d. absurd (d (agreed-zero s c))) (λ k d _. refused-nothing s c k d)
+
+-- `Record::waiting` adds up the counts of all 1,024 queues: those from M·N on are 0, so that this is the sum of queue lengths
+sum-rest : (m n : ℕ) (f : ℕ → ℕ) → m ≤ n → ((i : ℕ) → m ≤ i → i < n → f i ≡ 0) → sum n f ≡ sum m f
+unfolding sum
+sum-rest m zero f h z = ap (λ (k : ℕ). sum k f) (sym (le-zero h))
+sum-rest m (suc n) f h z = go (λ (k : m ≤ n). sum-rest m n f k (λ i a b. z i a (omega arith))) (eq-or-ne m (suc n))
+  where
+    go : (m ≤ n → sum n f ≡ sum m f) → (m ≡ suc n) ⊎ (m ≢ suc n) → sum n f + f n ≡ sum m f
+    go r (inl e) = ap (λ (k : ℕ). sum k f) (sym e)
+    go r (inr d) = omega (arith, r (omega (arith, d)), z n (omega (arith, d)) (omega arith))
+
+pub waiting-record : (s : State) → Ready s → sum queues (at (s .kept .counts)) ≡ waiting s
+unfolding waiting
+waiting-record s r = sum-rest (used s) queues (at (s .kept .counts)) (used-small s r) (λ k a b. r .queue k b .count-rest a)
 
 -- ---- from a fresh card
 
