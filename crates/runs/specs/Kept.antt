@@ -5,12 +5,14 @@ use mathlib.Core.Bool.{true}
 use mathlib.Core.List.{List, [], _∷_}
 use Prim.Native.Nat.{ℕ, _≤_, _<_}
 use native.Mathlib.Omega.{arith}
+use lib.ListN.{length}
 use Rattle.masks.specs.Tests.{lt-or-ge, eq-or-ne}
 use Rattle.card.specs.Paper.{ports, none, namesBelow}
 use Rattle.matches.specs.Paper.{partner, tab}
 use Rattle.matches.specs.Lists.{getD-tab, getD-tab-out}
-use Rattle.slot.specs.Paper.{State, Stepped, silent, arrived, matchOf, left, nextSlot, accepted}
-use Rattle.slot.specs.Ready.{Ready, ready-next}
+use Rattle.slot.specs.declared.Record.{Record}
+use Rattle.slot.specs.Paper.{State, Stepped, queues, wellFormed, silent, arrived, matchOf, left, nextSlot, accepted}
+use Rattle.slot.specs.Ready.{Ready, ready-next, well-formed}
 use Rattle.slot.specs.Refused.{refusalOf, slot-refused, slot-accepted}
 use Rattle.slot.specs.Accepted.{Fit, fit, arrived-along}
 use Rattle.slot.specs.Matched.{partners-of}
@@ -113,3 +115,16 @@ after-keeps (c ∷ calls) s r =
     let one = answer-keeps s r c in
     let rest = after-keeps calls (answer s c .state) (one .ready) in
     record { ready = rest .ready; card = rest .card ∙ one .card }
+
+-- ---- a well-formed record stays well formed, whatever the call and whatever lists are lent
+
+pub record Formed (r : Record) : Type 0 where
+  pub formed : wellFormed r ≡ true
+  pub heads-long : length (r .heads) ≡ queues
+  pub counts-long : length (r .counts) ≡ queues
+
+pub stays-well-formed : (s : State) (c : Call) → Formed (s .kept) → Formed (answer s c .state .kept)
+stays-well-formed s c f = by-answer s c (λ x. Formed (x .state .kept)) (λ z. go (agreed-keeps s c (way s (fit s (c .hold) (c .arrivals) (f .heads-long) (f .counts-long) z .ready) c z) .ready)) (λ k d. f)
+  where
+    go : Ready (agreed s c .state) → Formed (agreed s c .state .kept)
+    go r = record { formed = well-formed (agreed s c .state) r; heads-long = r .heads-long; counts-long = r .counts-long }
