@@ -56,7 +56,7 @@ impl Head {
 }
 
 /// The bytes of one record.
-fn record_bytes(m: u32) -> u64 {
+pub fn record_bytes(m: u32) -> u64 {
     4 + 6 * u64::from(m)
 }
 

@@ -2,8 +2,16 @@
 //! commands.
 
 mod assignment;
+#[cfg(feature = "library")]
+mod bench;
 mod card;
 mod cases;
+#[cfg(feature = "library")]
+mod differ;
+#[cfg(feature = "library")]
+mod hungarian;
+#[cfg(feature = "library")]
+mod library;
 mod log;
 mod matching;
 mod random;
@@ -11,6 +19,8 @@ mod replay;
 mod samples;
 mod selftest;
 mod slot;
+#[cfg(feature = "library")]
+mod soak;
 mod vectors;
 mod wide;
 
@@ -19,7 +29,15 @@ use std::path::Path;
 use std::process::ExitCode;
 
 const USAGE: &str =
-    "compare replay FILE | compare selftest | compare vectors DIR | compare logs DIR | compare time";
+    "compare replay FILE | compare selftest | compare vectors DIR | compare logs DIR\n\
+     with the library: compare bench | compare differ [SEED [ROUNDS]] | compare soak SECONDS [SEED] \
+     | compare soak slots COUNT [SEED] [M N D] | compare soak one CARDSEED [M N D]";
+
+/// Where a command that calls the proved library is not there.
+#[cfg(not(feature = "library"))]
+const NEEDS_LIBRARY: &str =
+    "this command needs the proved library: `rt staticlib crosspoint` in the \
+     project's root, then `--features library`";
 
 fn main() -> ExitCode {
     let words: Vec<String> = std::env::args().skip(1).collect();
@@ -29,7 +47,7 @@ fn main() -> ExitCode {
         ["selftest"] => selftest_all(),
         ["vectors", directory] => said(directory, vectors::write(Path::new(directory))),
         ["logs", directory] => said(directory, vectors::write_samples(Path::new(directory))),
-        ["time"] => time_matches(),
+        ["bench"] | ["differ" | "soak", ..] => with_library(&words),
         _ => fault(USAGE),
     }
 }
@@ -59,6 +77,35 @@ fn selftest_all() -> ExitCode {
     }
 }
 
+/// The commands that compare the proved library with this program.
+#[cfg(feature = "library")]
+fn with_library(words: &[&str]) -> ExitCode {
+    let run = || match words {
+        ["bench"] => Some(bench_all()),
+        ["differ", rest @ ..] => differ::command(rest),
+        ["soak", rest @ ..] => soak::command(rest),
+        _ => None,
+    };
+    match std::panic::catch_unwind(run) {
+        Ok(Some(true)) => ExitCode::SUCCESS,
+        Ok(None) => fault(USAGE),
+        _ => ExitCode::from(1),
+    }
+}
+
+/// A difference between the library and what it is set beside ends the benchmark.
+#[cfg(feature = "library")]
+fn bench_all() -> bool {
+    bench::run()
+        .map_err(|difference| eprintln!("{difference}"))
+        .is_ok()
+}
+
+#[cfg(not(feature = "library"))]
+fn with_library(_: &[&str]) -> ExitCode {
+    fault(NEEDS_LIBRARY)
+}
+
 /// What was written, or why not.
 fn said(directory: &str, written: std::io::Result<String>) -> ExitCode {
     match written {
@@ -68,26 +115,6 @@ fn said(directory: &str, written: std::io::Result<String>) -> ExitCode {
         }
         Err(error) => fault(&format!("{directory}: {error}")),
     }
-}
-
-/// The time of one 32 by 32 match, for three fills.
-fn time_matches() -> ExitCode {
-    const ROUNDS: u32 = 500;
-    let mut random = random::Random::seeded(2);
-    for fill in [10, 50, 100] {
-        let tables: Vec<Vec<u16>> = (0..ROUNDS).map(|_| random.table(1_024, fill, 3)).collect();
-        let start = std::time::Instant::now();
-        let sum: u32 = tables
-            .iter()
-            .map(|table| matching::table_match(32, 32, table, 0).size)
-            .sum();
-        let each = start.elapsed() / ROUNDS;
-        println!(
-            "fill {fill} %: {} microseconds per match, {sum} pairs",
-            each.as_micros()
-        );
-    }
-    ExitCode::SUCCESS
 }
 
 #[cfg(test)]

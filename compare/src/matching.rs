@@ -24,7 +24,7 @@
 //! below 2^214 and above −2^219. Gaps then stay below 2^220 and sums of all prices below 2^225.
 //! `Wide` stops the program should a number ever leave its 256 bits.
 
-use crate::assignment::{greatest, is_greatest, Assignment};
+use crate::assignment::{greatest, is_greatest};
 use crate::card::{names, ports_fit, stays_below, NONE, PORTS, WEIGHT};
 use crate::wide::Wide;
 use std::collections::BTreeSet;
@@ -73,7 +73,7 @@ impl Requests {
         self.rows.iter().any(|row| names(*row, output))
     }
 
-    fn pair_weight(&self, input: usize, output: usize) -> u32 {
+    pub fn pair_weight(&self, input: usize, output: usize) -> u32 {
         self.inputs[input] + self.outputs[output]
     }
 }
@@ -159,7 +159,7 @@ fn weights_fit(requests: &Requests) -> bool {
 
 /// The requests of a table under a hold, with R(i) and C(j) as weights; held outputs are in both
 /// totals.
-fn table_requests(m: u32, n: u32, counts: &[u16], hold: u32) -> Requests {
+pub fn table_requests(m: u32, n: u32, counts: &[u16], hold: u32) -> Requests {
     let mut requests = Requests::zeros();
     for input in 0..m as usize {
         for output in 0..n as usize {
@@ -186,7 +186,7 @@ fn heaviest(m: u32, n: u32, requests: &Requests) -> Match {
         is_greatest(&worth, &found),
         "the prices do not prove the match"
     );
-    chosen_requests(requests, &found)
+    chosen_requests(requests, &found.output_of)
 }
 
 fn worth_row(size: usize, requests: &Requests, input: usize) -> Vec<Wide> {
@@ -207,10 +207,10 @@ fn pair_worth(input: usize, output: usize, weight: u32) -> Wide {
     Wide::at_bit(weight, WEIGHT_BIT) + Wide::at_bit(digit, place)
 }
 
-/// The pairs of the assignment that are requests.
-fn chosen_requests(requests: &Requests, found: &Assignment) -> Match {
+/// The pairs of an assignment, given by the output of each input, that are requests.
+pub fn chosen_requests(requests: &Requests, output_of: &[usize]) -> Match {
     let mut answer = Match::empty(0);
-    for (input, output) in found.output_of.iter().enumerate() {
+    for (input, output) in output_of.iter().enumerate() {
         if names(requests.rows[input], *output) {
             answer.partners[input] = *output as u16;
             answer.size += 1;

@@ -111,7 +111,7 @@ fn held() -> Slots {
 
 /// Random slots: so many of a hundred inputs have an arrival, and so many of a hundred outputs are
 /// held.
-fn random(card: [u32; 3], slots: u32, load: u32, hold: u32, seed: u64) -> Slots {
+pub fn random(card: [u32; 3], slots: u32, load: u32, hold: u32, seed: u64) -> Slots {
     let [m, n, d] = card;
     let mut random = Random::seeded(seed);
     let mut made = Slots {

@@ -156,6 +156,9 @@ pub fn fresh(m: u32, n: u32, d: u32, lists: &mut Lists) -> (u32, Record) {
     (0, record)
 }
 
+/// A match from M, N, a table of counts and a hold.
+pub type Matching = fn(u32, u32, &[u16], u32) -> Match;
+
 /// One slot: the refusal (0 for none), the next record and the report. A refused slot changes
 /// nothing.
 pub fn slot(
@@ -164,16 +167,28 @@ pub fn slot(
     hold: u32,
     arrivals: &Arrivals,
 ) -> (u32, Record, Report) {
-    let refusal = slot_refusal(record, lists, hold, arrivals);
     let mut next = record.clone();
+    let (refusal, report) = step(&mut next, lists, hold, arrivals, table_match);
+    (refusal, next, report)
+}
+
+/// The same slot on the record where it stands, under a match of the caller's choice.
+pub fn step(
+    record: &mut Record,
+    lists: &mut Lists,
+    hold: u32,
+    arrivals: &Arrivals,
+    matching: Matching,
+) -> (u32, Report) {
+    let refusal = slot_refusal(record, lists, hold, arrivals);
     let mut report = Report::nothing();
     if refusal == 0 {
-        take_arrivals(&mut next, lists, arrivals, &mut report);
-        let found = table_match(next.m, next.n, &next.table(), hold);
-        send_cells(&mut next, lists, &found, &mut report);
-        next.slot = next.slot.wrapping_add(1);
+        take_arrivals(record, lists, arrivals, &mut report);
+        let found = matching(record.m, record.n, &record.table(), hold);
+        send_cells(record, lists, &found, &mut report);
+        record.slot = record.slot.wrapping_add(1);
     }
-    (refusal, next, report)
+    (refusal, report)
 }
 
 fn slot_refusal(record: &Record, lists: &Lists, hold: u32, arrivals: &Arrivals) -> u32 {
@@ -183,18 +198,19 @@ fn slot_refusal(record: &Record, lists: &Lists, hold: u32, arrivals: &Arrivals) 
         2
     } else if !stays_below(hold, record.n) {
         3
-    } else if !arrivals_fit(record, arrivals) {
+    } else if !arrivals_fit(record.m, record.n, arrivals) {
         4
     } else {
         0
     }
 }
 
-fn arrivals_fit(record: &Record, arrivals: &Arrivals) -> bool {
+/// Refusal 4 does not apply to these arrivals at a card of M inputs and N outputs.
+pub fn arrivals_fit(m: u32, n: u32, arrivals: &Arrivals) -> bool {
     (0..PORTS).all(|input| {
         let (output, cell) = (arrivals.outputs[input], arrivals.cells[input]);
-        if input < record.m as usize {
-            arrival_fits(output, cell, record.n)
+        if input < m as usize {
+            arrival_fits(output, cell, n)
         } else {
             output == NONE && cell == 0
         }
