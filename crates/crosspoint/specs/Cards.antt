@@ -9,7 +9,6 @@ use lib.ListN.{length}
 use lib.Dec.{eqb}
 use Rattle.card.specs.declared.Card.{Card}
 use Rattle.card.specs.declared.Arrivals.{Arrivals}
-use Rattle.slot.specs.declared.Record.{Record}
 use Rattle.slot.specs.Paper as steps
 use Rattle.slot.specs.Paper.{State, Made, Stepped, freshRefusal, made, fresh, slotRefusal, stepped, slot}
 use Rattle.crosspoint.specs.Paper.{Outcome, outcome, Slotted, recordLong, lentOf, freshLists, recordList, recordIn, recordHolds, reportList, arrivalsIn, slotLong, slotLists}

@@ -48,14 +48,7 @@ front-one x c k v d h l e w =
 pub front-all : {A : Type 0} {n : ℕ} (x c : List A) → length c ≡ n → length x ≡ n → take n c ≡ take n x → c ≡ x
 front-all {n = n} x c h l e = sym (take-all n c (omega arith)) ∙ e ∙ take-all n x (omega arith)
 
--- numbers as outputs, and back
-pub numbers-map : (l : List ℕ) → numbers (map out l) ≡ l
-numbers-map [] = refl
-numbers-map (j ∷ l) = ap (λ (r : List ℕ). j ∷ r) (numbers-map l)
-
-pub map-numbers : (l : List Out) → map out (numbers l) ≡ l
-map-numbers [] = refl
-map-numbers (o ∷ l) = ap (λ (r : List Out). o ∷ r) (map-numbers l)
+-- ---- numbers as outputs
 
 pub length-outs : (l : List ℕ) → length (map out l) ≡ length l
 length-outs [] = refl

@@ -5,3 +5,4 @@ pub mod Record
 pub mod Outcomes
 pub mod Cards
 pub mod Logs
+pub mod Back

@@ -1,17 +1,12 @@
 -- `crosspoint::crosspoint_fresh` meets its contract. Assumes nothing.
-use mathlib.Core.Path.{_≡_, refl, sym, ap, ap₂, _∙_}
-use native.Mathlib.Omega.{arith}
+use mathlib.Core.Path.{sym, _∙_}
 use borrow.Author.Needs.{needs}
-use Rattle.masks.specs.Tests.{failed, held, and-both}
 use borrow.Author.Tests.{eq-eqb, ne-eqb}
 use Rattle.crosspoint.specs.Paper.{freshLists}
 use Rattle.crosspoint.specs.Outcomes.{short}
 use Rattle.crosspoint.specs.Cards.{fresh-refused, fresh-done}
 use Rattle.crosspoint.proofs.crosspoint_fresh.Statement.{statement}
 use Rattle.crosspoint.proofs.crosspoint_fresh.Tie as tie
-use Rattle.card.proofs.Verdict.number.Reads as number-reads
-use Rattle.crosspoint.proofs.records.put_record.Reads as put-record-reads
-use Rattle.slot.proofs.Record.fresh.Reads as fresh-reads
 
 returns : tie.Need-returns
 unfolding freshLists

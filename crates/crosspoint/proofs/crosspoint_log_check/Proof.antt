@@ -1,8 +1,7 @@
 -- `crosspoint::crosspoint_log_check` meets its contract. Assumes nothing.
-use mathlib.Core.Path.{_≡_, refl, sym, ap, ap₂, _∙_}
+use mathlib.Core.Path.{refl, sym, ap, _∙_}
 use native.Mathlib.Omega.{arith}
 use borrow.Author.Needs.{needs}
-use Rattle.masks.specs.Tests.{failed, held, and-both}
 use mathlib.Core.List.{[], _∷_}
 use Prim.Native.Nat.{ℕ}
 use lib.Seq.{lt-length-sets}
@@ -13,9 +12,6 @@ use Rattle.crosspoint.specs.Logs.{check-short, check-refused, check-pass
 use Rattle.crosspoint.specs.Copy.{copy-whole}
 use Rattle.crosspoint.proofs.crosspoint_log_check.Statement.{statement}
 use Rattle.crosspoint.proofs.crosspoint_log_check.Tie as tie
-use Rattle.card.proofs.Verdict.number.Reads as number-reads
-use Rattle.crosspoint.proofs.two_halves.Reads as two-halves-reads
-use Rattle.slotlog.proofs.check.Reads as check-reads
 
 returns : tie.Need-returns
 returns c = check-short _ _ (ne-eqb _ _ (c .if1 .taken))

@@ -2,7 +2,7 @@
 use mathlib.Core.Path.{_≡_, refl, sym, ap, ap₂, _∙_}
 use native.Mathlib.Omega.{arith}
 use borrow.Author.Needs.{needs}
-use Rattle.masks.specs.Tests.{failed, held, and-both}
+use Rattle.masks.specs.Tests.{failed, held}
 use mathlib.Core.List.{List, [], _∷_}
 use Prim.Native.Nat.{ℕ}
 use lib.ListN.{length}
@@ -13,11 +13,6 @@ use Rattle.crosspoint.specs.Outcomes.{readInto, short, refused, accepted
 use Rattle.crosspoint.specs.Copy.{copy-whole}
 use Rattle.crosspoint.proofs.crosspoint_log_read.Statement.{statement}
 use Rattle.crosspoint.proofs.crosspoint_log_read.Tie as tie
-use Rattle.card.proofs.Verdict.number.Reads as number-reads
-use Rattle.crosspoint.proofs.lists.put_numbers.Reads as put-numbers-reads
-use Rattle.crosspoint.proofs.lists.put_outputs.Reads as put-outputs-reads
-use Rattle.crosspoint.proofs.read_long.Reads as read-long-reads
-use Rattle.slotlog.proofs.read.Reads as read-reads
 
 read-long-requires : tie.Need-read-long-requires
 read-long-requires c κs = search needs

@@ -1,6 +1,5 @@
 -- `crosspoint::crosspoint_log_write` meets its contract. Assumes nothing.
-use mathlib.Core.Path.{_≡_, refl, sym, ap, ap₂, _∙_}
-use native.Mathlib.Omega.{arith}
+use mathlib.Core.Path.{ap, _∙_}
 use borrow.Author.Needs.{needs}
 use Rattle.crosspoint.specs.Paper.{halves, writeLists}
 use Rattle.crosspoint.specs.Outcomes.{after}
@@ -8,9 +7,6 @@ use Rattle.slotlog.specs.Paper.{Written}
 use Prim.Native.Nat.{ℕ}
 use Rattle.crosspoint.proofs.crosspoint_log_write.Statement.{statement}
 use Rattle.crosspoint.proofs.crosspoint_log_write.Tie as tie
-use Rattle.card.proofs.Verdict.number.Reads as number-reads
-use Rattle.crosspoint.proofs.two_halves.Reads as two-halves-reads
-use Rattle.slotlog.proofs.write.Reads as write-reads
 
 write-requires : tie.Need-write-requires
 write-requires c κs = search needs

@@ -1,17 +1,13 @@
 -- `crosspoint::crosspoint_match_table` meets its contract. Assumes nothing.
-use mathlib.Core.Path.{_≡_, refl, sym, ap, ap₂, _∙_}
-use native.Mathlib.Omega.{arith}
+use mathlib.Core.Path.{sym, ap₂, _∙_}
 use borrow.Author.Needs.{needs}
-use Rattle.masks.specs.Tests.{failed, held, and-both}
+use Rattle.masks.specs.Tests.{failed, held}
 use mathlib.Core.Bool.{Bool}
 use Rattle.matches.specs.Paper.{Answer}
 use Rattle.crosspoint.specs.Paper.{given, matchTable}
 use Rattle.crosspoint.specs.Outcomes.{matched, short, answer-long}
 use Rattle.crosspoint.proofs.crosspoint_match_table.Statement.{statement}
 use Rattle.crosspoint.proofs.crosspoint_match_table.Tie as tie
-use Rattle.crosspoint.proofs.answer_long.Reads as answer-long-reads
-use Rattle.crosspoint.proofs.give.Reads as give-reads
-use Rattle.matching.proofs.table_match.Reads as table-match-reads
 
 answer-long-requires : tie.Need-answer-long-requires
 answer-long-requires c κs = search needs

@@ -1,6 +1,5 @@
 -- `crosspoint::crosspoint_match_weights` meets its contract. Assumes nothing.
-use mathlib.Core.Path.{_≡_, refl, sym, ap, ap₂, _∙_}
-use native.Mathlib.Omega.{arith}
+use mathlib.Core.Path.{sym, ap₂, _∙_}
 use borrow.Author.Needs.{needs}
 use Rattle.masks.specs.Tests.{failed, held, and-both}
 use mathlib.Core.Bool.{Bool, _&&_}
@@ -9,12 +8,6 @@ use Rattle.crosspoint.specs.Paper.{given, matchWeights}
 use Rattle.crosspoint.specs.Outcomes.{matched, short, answer-long, weights-long}
 use Rattle.crosspoint.proofs.crosspoint_match_weights.Statement.{statement}
 use Rattle.crosspoint.proofs.crosspoint_match_weights.Tie as tie
-use Rattle.card.proofs.also.Reads as also-reads
-use Rattle.crosspoint.proofs.answer_long.Reads as answer-long-reads
-use Rattle.crosspoint.proofs.give.Reads as give-reads
-use Rattle.crosspoint.proofs.lists.numbers_in.Reads as numbers-in-reads
-use Rattle.crosspoint.proofs.weights_long.Reads as weights-long-reads
-use Rattle.matching.proofs.weighted_match.Reads as weighted-match-reads
 
 weights-long-requires : tie.Need-weights-long-requires
 weights-long-requires c κs = search needs

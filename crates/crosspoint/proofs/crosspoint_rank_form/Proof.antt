@@ -1,9 +1,8 @@
 -- `crosspoint::crosspoint_rank_form` meets its contract. Assumes nothing.
-use mathlib.Core.Path.{_≡_, refl, sym, ap, ap₂, _∙_}
+use mathlib.Core.Path.{_≡_, sym, ap, ap₂, _∙_}
 use native.Mathlib.Omega.{arith}
 use borrow.Author.Needs.{needs}
-use Rattle.masks.specs.Tests.{failed, held, and-both}
-use mathlib.Core.List.{List}
+use Rattle.masks.specs.Tests.{failed, held}
 use lib.ListN.{length}
 use Rattle.matches.specs.Paper.{RankForm}
 use Rattle.crosspoint.specs.Paper.{rankLists}
@@ -11,11 +10,6 @@ use Rattle.crosspoint.specs.Outcomes.{weights, short, refused, accepted,
 use Rattle.crosspoint.specs.Copy.{copy-whole}
 use Rattle.crosspoint.proofs.crosspoint_rank_form.Statement.{statement}
 use Rattle.crosspoint.proofs.crosspoint_rank_form.Tie as tie
-use Rattle.card.proofs.Verdict.number.Reads as number-reads
-use Rattle.crosspoint.proofs.lists.numbers_in.Reads as numbers-in-reads
-use Rattle.crosspoint.proofs.lists.put_numbers.Reads as put-numbers-reads
-use Rattle.crosspoint.proofs.weights_long.Reads as weights-long-reads
-use Rattle.matching.proofs.rank_form.Reads as rank-form-reads
 
 weights-long-requires : tie.Need-weights-long-requires
 weights-long-requires c κs = search needs

@@ -1,20 +1,11 @@
 -- `crosspoint::crosspoint_slot` meets its contract. Assumes nothing.
-use mathlib.Core.Path.{_≡_, refl, sym, ap, ap₂, _∙_}
-use native.Mathlib.Omega.{arith}
 use borrow.Author.Needs.{needs}
-use Rattle.masks.specs.Tests.{failed, held, and-both}
+use Rattle.masks.specs.Tests.{failed, held}
 use Rattle.crosspoint.specs.Paper.{slotLists}
 use Rattle.crosspoint.specs.Outcomes.{short, slot-long}
 use Rattle.crosspoint.specs.Cards.{slot-unheld, slot-given}
 use Rattle.crosspoint.proofs.crosspoint_slot.Statement.{statement}
 use Rattle.crosspoint.proofs.crosspoint_slot.Tie as tie
-use Rattle.crosspoint.proofs.give_slot.Reads as give-slot-reads
-use Rattle.crosspoint.proofs.lists.numbers_in.Reads as numbers-in-reads
-use Rattle.crosspoint.proofs.lists.outputs_in.Reads as outputs-in-reads
-use Rattle.crosspoint.proofs.records.record_holds.Reads as record-holds-reads
-use Rattle.crosspoint.proofs.records.record_in.Reads as record-in-reads
-use Rattle.crosspoint.proofs.slot_long.Reads as slot-long-reads
-use Rattle.slot.proofs.Record.slot.Reads as slot-reads
 
 slot-long-requires : tie.Need-slot-long-requires
 slot-long-requires c κs = search needs

@@ -1,6 +1,5 @@
 -- `crosspoint::give` meets its contract. Assumes nothing.
-use mathlib.Core.Path.{_≡_, refl, sym, ap, ap₂, _∙_}
-use native.Mathlib.Omega.{arith}
+use mathlib.Core.Path.{refl, sym, ap₂, _∙_}
 use borrow.Author.Needs.{needs}
 use mathlib.Core.List.{[], _∷_}
 use Rattle.crosspoint.specs.Paper.{given}
@@ -8,8 +7,6 @@ use Rattle.crosspoint.specs.Outcomes.{matched, refused, accepted}
 use Rattle.crosspoint.specs.Copy.{copy-whole}
 use Rattle.crosspoint.proofs.give.Statement.{statement}
 use Rattle.crosspoint.proofs.give.Tie as tie
-use Rattle.card.proofs.Verdict.number.Reads as number-reads
-use Rattle.crosspoint.proofs.lists.put_outputs.Reads as put-outputs-reads
 
 number-requires : tie.Need-number-requires
 number-requires c κs = search needs

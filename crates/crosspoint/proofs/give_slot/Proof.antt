@@ -4,9 +4,6 @@ use borrow.Author.Needs.{needs}
 use Rattle.crosspoint.specs.Outcomes.{gave, refused, accepted}
 use Rattle.crosspoint.proofs.give_slot.Statement.{statement}
 use Rattle.crosspoint.proofs.give_slot.Tie as tie
-use Rattle.card.proofs.Verdict.number.Reads as number-reads
-use Rattle.crosspoint.proofs.records.put_record.Reads as put-record-reads
-use Rattle.crosspoint.proofs.records.put_report.Reads as put-report-reads
 
 number-requires : tie.Need-number-requires
 number-requires c κs = search needs

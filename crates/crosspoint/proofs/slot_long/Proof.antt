@@ -6,7 +6,6 @@ use borrow.Author.Needs.{needs}
 use Rattle.crosspoint.specs.Paper.{slotLong}
 use Rattle.crosspoint.proofs.slot_long.Statement.{statement}
 use Rattle.crosspoint.proofs.slot_long.Tie as tie
-use Rattle.card.proofs.also.Reads as also-reads
 
 also-requires : tie.Need-also-requires
 also-requires c κs = search needs

@@ -11,7 +11,6 @@ use Rattle.matches.specs.Paper.{at}
 use Rattle.crosspoint.specs.Paper.{holdable}
 use Rattle.crosspoint.proofs.lists.holdable.Statement.{statement}
 use Rattle.crosspoint.proofs.lists.holdable.Tie as tie
-use Rattle.card.proofs.also.Reads as also-reads
 
 abbrev Inv-loop : tie.InvT-loop
 Inv-loop list ok₀ k₀ ok k = (k ≤ 1024) × (ok ≡ every k (λ i. ltb (at list i) 65536))

@@ -1,5 +1,5 @@
 -- `crosspoint::lists::put_outputs` meets its contract. The invariant: the outputs passed stand in the list. Assumes nothing.
-use mathlib.Core.Path.{_≡_, refl, sym, _∙_}
+use mathlib.Core.Path.{_≡_, refl, _∙_}
 use Prim.Native.Nat.{_≤_, _-_}
 use native.Mathlib.Omega.{arith}
 use lib.ListN.{length, take, length-set}

@@ -7,7 +7,6 @@ use lib.ListN.{length-set, set}
 use Rattle.slotlog.specs.Put.{put-on}
 use Rattle.crosspoint.proofs.records.put_counters.Statement.{statement}
 use Rattle.crosspoint.proofs.records.put_counters.Tie as tie
-use Rattle.crosspoint.proofs.records.put_three.Reads as put-three-reads
 
 slice-write-list : tie.Need-slice-write-list
 slice-write-list c = search needs

@@ -3,9 +3,6 @@ use borrow.Author.Needs.{needs}
 use Rattle.crosspoint.specs.Record.{record-put}
 use Rattle.crosspoint.proofs.records.put_record.Statement.{statement}
 use Rattle.crosspoint.proofs.records.put_record.Tie as tie
-use Rattle.crosspoint.proofs.lists.put_counts.Reads as put-counts-reads
-use Rattle.crosspoint.proofs.records.put_counters.Reads as put-counters-reads
-use Rattle.crosspoint.proofs.records.put_three.Reads as put-three-reads
 
 put-three-requires : tie.Need-put-three-requires
 put-three-requires c κs = search needs

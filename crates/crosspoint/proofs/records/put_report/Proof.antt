@@ -5,9 +5,6 @@ use borrow.Author.Needs.{needs}
 use Rattle.crosspoint.specs.Record.{report-put}
 use Rattle.crosspoint.proofs.records.put_report.Statement.{statement}
 use Rattle.crosspoint.proofs.records.put_report.Tie as tie
-use Rattle.crosspoint.proofs.lists.put_numbers.Reads as put-numbers-reads
-use Rattle.crosspoint.proofs.lists.wide.Reads as wide-reads
-use Rattle.crosspoint.proofs.records.put_three.Reads as put-three-reads
 
 wide-requires : tie.Need-wide-requires
 wide-requires c κs = search needs

@@ -5,8 +5,6 @@ use borrow.Author.Needs.{needs}
 use Rattle.crosspoint.specs.Paper.{recordHolds}
 use Rattle.crosspoint.proofs.records.record_holds.Statement.{statement}
 use Rattle.crosspoint.proofs.records.record_holds.Tie as tie
-use Rattle.card.proofs.also.Reads as also-reads
-use Rattle.crosspoint.proofs.lists.holdable.Reads as holdable-reads
 
 sub-holdable : tie.Need-sub-holdable
 sub-holdable c = search needs

@@ -4,7 +4,6 @@ use Rattle.masks.specs.Tests.{and-both}
 use Rattle.crosspoint.specs.Paper.{holdable, headsIn, recordHolds, recordIn}
 use Rattle.crosspoint.proofs.records.record_in.Statement.{statement}
 use Rattle.crosspoint.proofs.records.record_in.Tie as tie
-use Rattle.crosspoint.proofs.lists.counts_in.Reads as counts-in-reads
 
 sub-counts-in : tie.Need-sub-counts-in
 sub-counts-in c = search needs
