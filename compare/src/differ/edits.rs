@@ -166,3 +166,28 @@ impl Run {
         }
     }
 }
+
+/// Holds and arrivals at the limits of N outputs, each with the refusal that it gets; `hold` and
+/// `entry` make the case of a mask, and of an output with a cell.
+pub fn arrival_edges<Case>(
+    n: u32,
+    hold: impl Fn(u32, u32) -> Case,
+    entry: impl Fn(u32, u32, u32) -> Case,
+) -> Vec<Case> {
+    let mut edges = vec![
+        hold(0, 1 << (n - 1)),
+        hold(0, u32::MAX >> (32 - n)),
+        entry(0, n - 1, 0),
+        entry(0, n - 1, u32::MAX),
+        entry(0, 65_535, 0),
+        entry(4, n, 0),
+        entry(4, 256 + n - 1, 3),
+        entry(4, 65_534, 5),
+        entry(4, 65_535, 1),
+        entry(4, 65_535, 1 << 24),
+    ];
+    if n < 32 {
+        edges.extend([1 << n, 1 << 31, u32::MAX].map(|mask| hold(3, mask)));
+    }
+    edges
+}

@@ -2,7 +2,7 @@
 //! logs and long ones.
 
 use super::call::{leftovers, Call, Function, List};
-use super::edits::{edge, fixed_lengths, number, unchanged, Edge, Edit};
+use super::edits::{arrival_edges, edge, fixed_lengths, number, unchanged, Edge, Edit};
 use super::model::halves;
 use super::{sizes, Run};
 use crate::card::PORTS;
@@ -262,22 +262,7 @@ fn record_edges(log: &Log, slot: u32, input: u32) -> Vec<LogEdge> {
         let at = start + 4 + 6 * input as usize;
         made(refusal, at, [two(output), four(cell)].concat())
     };
-    let mut edges = vec![
-        hold(0, 1 << (n - 1)),
-        hold(0, u32::MAX >> (32 - n)),
-        entry(0, n - 1, 0),
-        entry(0, n - 1, u32::MAX),
-        entry(0, 65_535, 0),
-        entry(4, n, 0),
-        entry(4, 256 + n - 1, 3),
-        entry(4, 65_534, 0),
-        entry(4, 65_535, 1),
-        entry(4, 65_535, 1 << 24),
-    ];
-    if n < 32 {
-        edges.extend([1 << n, 1 << 31, u32::MAX].map(|mask| hold(3, mask)));
-    }
-    edges
+    arrival_edges(n, hold, entry)
 }
 
 /// Checks a log and reads these slots of it.

@@ -2,7 +2,9 @@
 //! reads back.
 
 use super::call::{leftovers, Call, Function, List};
-use super::edits::{depths_refused, edge, element, lengths, ports_refused, unchanged, Edge, Edit};
+use super::edits::{
+    arrival_edges, depths_refused, edge, element, lengths, ports_refused, unchanged, Edge, Edit,
+};
 use super::logs::{bases, check_call, most_slots, random_slots, read_call};
 use super::model::halves;
 use super::{sizes, Run};
@@ -134,21 +136,7 @@ fn record_edges(call: &Call, slot: u32, input: u32) -> Vec<Edge> {
         let cell = Edit::Elements("cells", place, vec![cell]);
         edge(answer, vec![output, cell])
     };
-    let mut edges = vec![
-        hold(0, 1 << (n - 1)),
-        hold(0, u32::MAX >> (32 - n)),
-        entry(0, n - 1, 0),
-        entry(0, n - 1, u32::MAX),
-        entry(0, 65_535, 0),
-        entry(4, n, 0),
-        entry(4, 65_534, 5),
-        entry(4, 65_535, 1),
-        entry(4, 65_535, 1 << 31),
-    ];
-    if n < 32 {
-        edges.extend([1 << n, 1 << 31, u32::MAX].map(|mask| hold(3, mask)));
-    }
-    edges
+    arrival_edges(n, hold, entry)
 }
 
 /// Buffers of other lengths; a log without slots leaves most of the buffer.
