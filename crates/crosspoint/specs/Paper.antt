@@ -31,8 +31,6 @@ unfoldable pub outcome : {A : Type 0} → (refusal : ℕ) → (done given : A) �
 outcome zero done given = record { answer = 0; lists = done }
 outcome (suc k) done given = record { answer = suc k; lists = given }
 
--- "Lists whose length is fixed here are tested first: another length is refusal 2, before all else": these tests are of the lengths
-
 -- "refusal in the low half, .. in the high half"
 abbrev pub halves : (low high : ℕ) → ℕ
 halves low high = low + high * 2 ^ 32
@@ -47,6 +45,7 @@ pub record Matched : Type 0 where
 unfoldable pub given : Bool → matches.Answer → Matched → Outcome Matched
 given fixed a was = outcome (unless fixed 2 (a .refusal)) (record { partners = a .partners; totals = a .pairs ∷ a .weighs ∷ [] }) was
 
+-- "Lists whose length is fixed here are tested first: another length is refusal 2, before all else". This test and those like it below are of lengths
 unfoldable pub answerLong : (partners totals : ℕ) → Bool
 answerLong partners totals = eqb partners ports && eqb totals 2
 
