@@ -6,7 +6,7 @@ use libc::STDOUT_FILENO;
 const ROOM: usize = 2048;
 
 // The bytes before `end` are the line so far. What has no room is left out.
-#[derive(Drop)]
+#[derive(Clone, Copy)]
 pub struct Line {
     bytes: [u8; ROOM],
     end: usize,

@@ -4,7 +4,7 @@ ghost use Rattle.std.specs.Prelude.{◌≡◌, ◌&&◌};
 ghost use Rattle.card.specs.Paper.{within, ports_fit, card_fits, names_below, arrival_fits, arrivals_fit, no_arrivals, number_of, index, one_stored, one_dropped, one_departed};
 
 // M inputs, N outputs, and D cells in each queue.
-#[derive(Drop)]
+#[derive(Clone, Copy)]
 pub struct Card {
     pub m: u32,
     pub n: u32,
@@ -12,22 +12,22 @@ pub struct Card {
 }
 
 // An input number: a place that wants one does not take an output.
-#[derive(Drop)]
+#[derive(Clone, Copy)]
 pub struct In(pub u16);
 
 // An output number, or none.
-#[derive(Drop)]
+#[derive(Clone, Copy)]
 pub struct Out(pub u16);
 
 // What arrives in one slot: for each input an output and a cell, none with 0 where nothing arrives.
-#[derive(Drop)]
+#[derive(Clone, Copy)]
 pub struct Arrivals {
     pub outputs: [Out; 32],
     pub cells: [u32; 32],
 }
 
 // What happened since the card was fresh, modulo 4,294,967,296.
-#[derive(Drop)]
+#[derive(Clone, Copy)]
 pub struct Counters {
     pub offered: u32,
     pub stored: u32,
@@ -36,7 +36,7 @@ pub struct Counters {
 }
 
 // What a call says of its arguments: accepted, or the refusal that document 01 numbers 1 to 11, in its order.
-#[derive(Drop)]
+#[derive(Clone, Copy)]
 pub enum Verdict {
     Accepted,
     Size,
@@ -69,7 +69,7 @@ impl Card {
         also(ports_fit(self.m, self.n), within(Card::DEPTH, self.d))
     }
 
-    // Queue (i, j) has index typeof.i.N + j.
+    // Queue (i, j) has index i·N + j.
     pub fn index(self, i: In, j: Out) -> usize
         ensures { result ≡ index self i.0 j.0 }
     {

@@ -14,7 +14,7 @@ use text::{end, field, sendings, start};
 const ROOM: usize = 1536;
 
 // A line: the first `len` of these bytes.
-#[derive(Drop)]
+#[derive(Clone, Copy)]
 pub struct Line {
     pub bytes: [u8; ROOM],
     pub len: usize,

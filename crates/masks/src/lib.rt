@@ -1,5 +1,7 @@
 // Ports as bits of a u32. `bit m k` is 1 where port k is in the set m, and 0 where it is not.
 // The only crate that shifts or combines bits. A port of 32 or more is in no set, and nothing puts it there.
+#![tactic(auto)]
+
 ghost use Rattle.std.specs.Prelude.{◌≡◌, ℕ, ◌-◌, min, max};
 ghost use Rattle.masks.specs.Paper.{bit, sum, has, With, Without, Below, Lowest};
 

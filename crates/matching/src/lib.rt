@@ -13,7 +13,7 @@ ghost use Rattle.matching.specs.Answers.{Bounded, answer_of, Answered, refused_a
 use card::{Card, Out, Verdict};
 
 // 32 partners (none for an input without one), the number of pairs and their weight.
-#[derive(Drop)]
+#[derive(Clone, Copy)]
 pub struct Answer {
     pub verdict: Verdict,
     pub partners: [Out; 32],
@@ -22,7 +22,7 @@ pub struct Answer {
 }
 
 // The same rows, with a rank for each weight.
-#[derive(Drop)]
+#[derive(Clone, Copy)]
 pub struct RankForm {
     pub verdict: Verdict,
     pub rows: [u32; 32],

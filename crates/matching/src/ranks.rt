@@ -5,7 +5,7 @@ ghost use Rattle.matches.specs.Paper.{at, tab, rank, member, smaller};
 ghost use Rattle.matching.specs.Ranks.{Added, Found};
 
 // The distinct weights of the ports passed. They stand at the end of the list, from place `from` on; what stands before it is no matter.
-#[derive(Drop)]
+#[derive(Clone, Copy)]
 struct Levels {
     from: usize,
     weights: [u32; 32],

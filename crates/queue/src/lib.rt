@@ -6,14 +6,14 @@ ghost use Rattle.queue.specs.Paper.{ring_of, sent_of, stands, queue_fits, wait_o
 use card::Card;
 
 // The place of the oldest cell, and how many cells wait.
-#[derive(Drop)]
+#[derive(Clone, Copy)]
 pub struct Queue {
     pub head: u16,
     pub count: u16,
 }
 
 // The queue afterwards, the cell that it sent, and how long that cell has waited.
-#[derive(Drop)]
+#[derive(Clone, Copy)]
 pub struct Sent {
     pub queue: Queue,
     pub cell: u32,

@@ -12,7 +12,7 @@ use super::{heaviest, pairing, problem};
 use card::{Card, Out};
 
 // The inputs and outputs that are left, a heaviest match of what they request with its weight, and the partners fixed so far.
-#[derive(Drop)]
+#[derive(Clone, Copy)]
 pub struct Rest {
     pub ins: u32,
     pub outs: u32,
@@ -147,7 +147,7 @@ fn begin(all: Problem, inputs: [u32; 32], outputs: [u32; 32]) -> Rest
 }
 
 // The partners of the first of the heaviest matches, and its weight.
-#[derive(Drop)]
+#[derive(Clone, Copy)]
 pub struct Found {
     pub partners: [Out; 32],
     pub weight: u64,

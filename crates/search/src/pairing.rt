@@ -6,7 +6,7 @@ ghost use Rattle.matches.specs.Paper.{at};
 ghost use Rattle.search.specs.Pair.{Put, Freed, Paired, Link, Unlink, Swapped};
 
 // The partner of each of mine and the holder of each of theirs; the sets of those of mine, and of theirs, that have none.
-#[derive(Drop)]
+#[derive(Clone, Copy)]
 pub struct Pairing {
     pub mine: [u8; 32],
     pub theirs: [u8; 32],

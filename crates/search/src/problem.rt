@@ -4,7 +4,7 @@ ghost use Rattle.search.specs.Problem.{Columns, Asking, Sound, ProblemOf, LeftOf
 ghost use Rattle.search.specs.ProblemSteps.{Spread, Marked, Kept, Narrow};
 
 // Rows for the inputs and columns for the outputs, and two sets: an input outside `ins` and an output outside `outs` have no request.
-#[derive(Drop)]
+#[derive(Clone, Copy)]
 pub struct Problem {
     pub rows: [u32; 32],
     pub cols: [u32; 32],

@@ -11,7 +11,7 @@ use super::pairing::Pairing;
 
 // Those of mine that were found, in order, and for each the place in the queue of the one that found it. Those before `at` are done with.
 // `outs` and `ins` are the sets of theirs and of mine seen; `found` is a free one that the one at `at` requests, or 32.
-#[derive(Drop)]
+#[derive(Clone, Copy)]
 pub struct Search {
     pub queue: [u8; 32],
     pub from: [u8; 32],

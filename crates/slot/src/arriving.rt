@@ -10,7 +10,7 @@ use card::{Arrivals, Card, Counters, In, Out};
 use queue::Queue;
 
 // The counters so far, and the inputs whose arrival was dropped.
-#[derive(Drop)]
+#[derive(Clone, Copy)]
 pub struct Taken {
     pub counters: Counters,
     pub dropped: u32,

@@ -13,8 +13,8 @@ ghost use Rattle.slot.specs.Answers.{state_of, made_of, report_of, stepped_of};
 
 use card::{Arrivals, Card, Counters, Out, Verdict};
 
-// The card, with the head and count of each queue, the slot number and the counters. Queue (i, j) has index typeof.i.N + j.
-#[derive(Drop)]
+// The card, with the head and count of each queue, the slot number and the counters. Queue (i, j) has index i·N + j.
+#[derive(Clone, Copy)]
 pub struct Record {
     pub card: Card,
     pub heads: [u16; 1024],
@@ -25,7 +25,7 @@ pub struct Record {
 
 // What a slot did: for each input its partner, the cell that it sent and how long that cell had waited (none, 0, 0 where it sent nothing); the number of
 // pairs and their weight; and the inputs whose arrival was dropped.
-#[derive(Drop)]
+#[derive(Clone, Copy)]
 pub struct Report {
     pub partners: [Out; 32],
     pub cells: [u32; 32],
@@ -36,14 +36,14 @@ pub struct Report {
 }
 
 // A fresh card's record; a record of zeros where refused.
-#[derive(Drop)]
+#[derive(Clone, Copy)]
 pub struct Made {
     pub verdict: Verdict,
     pub record: Record,
 }
 
 // The next record with the slot's report; the given record and an empty report where refused.
-#[derive(Drop)]
+#[derive(Clone, Copy)]
 pub struct Stepped {
     pub verdict: Verdict,
     pub record: Record,

@@ -12,7 +12,7 @@ use card::{Card, Counters, In, Out};
 use queue::Queue;
 
 // The counters so far, and for each input the cell that it sent and its wait.
-#[derive(Drop)]
+#[derive(Clone, Copy)]
 pub struct Gone {
     pub counters: Counters,
     pub cells: [u32; 32],

@@ -16,7 +16,7 @@ use card::{Arrivals, Card, Verdict};
 
 // What the whole-log check answers: the card, how many slots there are, and where the first record starts. Where it refuses, these are 0, and the
 // number of the record in which the fault lies stands beside the refusal, counted from 1; 0 where it lies in no record.
-#[derive(Drop)]
+#[derive(Clone, Copy)]
 pub struct Checked {
     pub verdict: Verdict,
     pub fault_at: u32,
@@ -26,7 +26,7 @@ pub struct Checked {
 }
 
 // One slot of a log; hold 0 and no arrivals where it is refused.
-#[derive(Drop)]
+#[derive(Clone, Copy)]
 pub struct ReadSlot {
     pub verdict: Verdict,
     pub hold: u32,
@@ -34,7 +34,7 @@ pub struct ReadSlot {
 }
 
 // How many bytes were written; 0 where refused.
-#[derive(Drop)]
+#[derive(Clone, Copy)]
 pub struct Written {
     pub verdict: Verdict,
     pub length: u32,

@@ -13,7 +13,7 @@ use super::records::{LONGEST, MARK, Slot, TRAILER};
 use card::{Arrivals, Card, Verdict};
 
 // What the trailer says, and where it starts.
-#[derive(Drop)]
+#[derive(Clone, Copy)]
 pub struct Trailer {
     pub place: u32,
     pub back: u32,
@@ -22,7 +22,7 @@ pub struct Trailer {
 }
 
 // A verdict, and the record in which the fault lies, counted from 1; 0 where it lies in no record.
-#[derive(Drop)]
+#[derive(Clone, Copy)]
 pub struct Fault {
     pub verdict: Verdict,
     pub record: u32,

@@ -17,7 +17,7 @@ pub const LONGEST: usize = 32016;
 pub const MARK: u16 = 20556;
 
 // What one record holds.
-#[derive(Drop)]
+#[derive(Clone, Copy)]
 pub struct Slot {
     pub hold: u32,
     pub arrivals: Arrivals,
