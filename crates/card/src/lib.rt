@@ -1,5 +1,7 @@
 // The card: its limits, its port numbers, what arrives in a slot, its counters, the refusals, and the tests of sizes, masks and arrivals that matching,
 // slot and log share.
+#![tactic(auto)]
+
 ghost use Rattle.std.specs.Prelude.{◌≡◌, ◌&&◌};
 ghost use Rattle.card.specs.Paper.{within, ports_fit, card_fits, names_below, arrival_fits, arrivals_fit, no_arrivals, number_of, index, one_stored, one_dropped, one_departed};
 

@@ -1,0 +1,10 @@
+-- `card::within` meets its contract. Assumes nothing.
+use Rattle.std.proofs.Common.{le-leb}
+use borrow.Author.Tests.{lt-leb}
+use Rattle.card.proofs.within.Goals as goal
+
+pub returns-then-x-ge1 : goal.returns-then-x-ge1
+returns-then-x-ge1 c = simp (le-leb _ _ c.if-x-ge1.true)
+
+pub returns-else-x-ge1 : goal.returns-else-x-ge1
+returns-else-x-ge1 c = simp (lt-leb _ _ c.if-x-ge1.false)
