@@ -8,7 +8,7 @@ use Rattle.masks.specs.Paper.{keep}
 use Rattle.masks.specs.Tests.{lt_or_ge, keep_lt, keep_ge}
 use Rattle.masks.specs.Sum.{sum_mono}
 use Rattle.masks.specs.Laws.{on_has}
-use Rattle.matches.specs.Paper.{at, asks, Match, weight}
+use Rattle.matches.specs.Paper.{at, asks, Match}
 use Rattle.matches.specs.Owner.{owner, owner_lt}
 use Rattle.matches.specs.Certificate.{in_w, parts, sets_best}
 use Rattle.matches.specs.Sides.{owner_match, out_is_in, Greatest}

@@ -77,7 +77,7 @@ fn hit(s: Search, j: u32) -> Search
 fn step(rows: [u32; 32], p: Pairing, s: Search) -> Search
     requires paired { Paired (wants rows) p }
     requires stage_of { StageOf rows p s }
-    requires at_lt_len { (s.at < s.len) × (32 ≤ s.found) }
+    requires waiting { (s.at < s.len) × (32 ≤ s.found) }
     ensures { Stepped rows p s result }
 {
     let queue = s.queue;
@@ -98,7 +98,7 @@ fn step(rows: [u32; 32], p: Pairing, s: Search) -> Search
 // Breadth first from u, which has no partner.
 pub fn reach(rows: [u32; 32], p: Pairing, u: u32) -> Search
     requires paired { Paired (wants rows) p }
-    requires u_bound { (u < 32) × (32 ≤ at p.mine u) }
+    requires unmatched { (u < 32) × (32 ≤ at p.mine u) }
     ensures { Reached rows p u result }
 {
     let mut s = begin(u);

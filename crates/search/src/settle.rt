@@ -61,7 +61,7 @@ fn lightest(weights: [u32; 32], queue: [u8; 32], len: u32) -> u32
 // A place for u, which has none: a free one, or that of one that weighs less.
 fn attempt(rows: [u32; 32], weights: [u32; 32], p: Pairing, u: u32) -> Pairing
     requires paired { Paired (wants rows) p }
-    requires u_bound { (u < 32) × (32 ≤ at p.mine u) }
+    requires unmatched { (u < 32) × (32 ≤ at p.mine u) }
     ensures { Visited rows weights p u result }
 {
     let s = reach::reach(rows, p, u);
@@ -80,7 +80,7 @@ fn attempt(rows: [u32; 32], weights: [u32; 32], p: Pairing, u: u32) -> Pairing
 // u is tried if it has no partner.
 fn visit(rows: [u32; 32], weights: [u32; 32], p: Pairing, u: u32) -> Pairing
     requires paired { Paired (wants rows) p }
-    requires u_bound { u < 32 }
+    requires port { u < 32 }
     ensures { Visited rows weights p u result }
 {
     let mine = p.mine;

@@ -1,0 +1,12 @@
+-- The invariant: what the inputs passed bring. Assumes nothing.
+use Rattle.std.proofs.Common.{◌≡◌}
+use Prim.Native.Nat.{◌*◌, ◌-◌, ◌≤◌}
+use Rattle.masks.specs.Paper.{sum as sum_to}
+use Rattle.search.specs.Heaviest.{brings}
+use Rattle.search.proofs.heaviest.weigh.Given as goal
+
+abbrev pub invariant-loop-i : goal.invariant-loop-i
+invariant-loop-i l = (l.i ≤ 32) × (l.sum ≡ sum_to l.i (brings l.inputs l.outputs l.p.mine)) × (l.sum ≤ 8589934591 * l.i)
+
+abbrev pub decreases-loop-i : goal.decreases-loop-i
+decreases-loop-i l = 32 - l.i

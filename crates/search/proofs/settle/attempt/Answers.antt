@@ -1,0 +1,31 @@
+-- `search::settle::attempt` meets its contract. Assumes nothing.
+use Rattle.std.proofs.Common.{arith, refl, rules}
+use Rattle.search.specs.Settle.{queue_of, ready_at, tried_found, giving_at, tried_exchange, tried_none}
+use Rattle.search.specs.Augment.{ready_any}
+use Rattle.search.specs.Exchange.{giving_any}
+use Rattle.search.proofs.settle.attempt.Goals as goal
+
+pub augment-requires : goal.augment-requires
+augment-requires c = ready_any _ _ _ _ _ _ (ready_at _ c.args.weights _ _ c.requires.paired c.requires.unmatched.0 c.requires.unmatched.1 _ c.reach-s.ensures c.if-s-lt32.true)
+
+pub returns-then-s-lt32 : goal.returns-then-s-lt32
+returns-then-s-lt32 c = tried_found _ c.args.weights _ _ c.requires.paired c.requires.unmatched.0 c.requires.unmatched.1 _ c.reach-s.ensures _ _ (c.augment.ensures _ (ready_at _ c.args.weights _ _ c.requires.paired c.requires.unmatched.0 c.requires.unmatched.1 _ c.reach-s.ensures c.if-s-lt32.true))
+
+pub lightest-h-requires : goal.lightest-h-requires
+lightest-h-requires c = queue_of _ c.args.weights _ _ c.requires.paired c.requires.unmatched.0 c.requires.unmatched.1 _ c.reach-s.ensures
+
+pub get-x-requires : goal.get-x-requires
+get-x-requires c = omega (arith, (queue_of _ c.args.weights _ _ c.requires.paired c.requires.unmatched.0 c.requires.unmatched.1 _ c.reach-s.ensures).room, c.lightest-h.ensures.inside)
+
+pub less-requires : goal.less-requires
+less-requires c = (omega (arith, (queue_of _ c.args.weights _ _ c.requires.paired c.requires.unmatched.0 c.requires.unmatched.1 _ c.reach-s.ensures).within c.lightest-h.result c.lightest-h.ensures.inside, c.get-x.ensures), search rules)
+
+pub exchange-requires : goal.exchange-requires
+exchange-requires c = giving_any _ _ _ _ _ (giving_at _ c.args.weights _ _ c.requires.paired c.requires.unmatched.0 c.requires.unmatched.1 _ c.reach-s.ensures c.if-s-lt32.false _ c.lightest-h.ensures _ _ _ c.get-x.ensures refl refl (c.less.ensures.0 c.if-less.true))
+
+pub returns-then-less : goal.returns-then-less
+returns-then-less c = tried_exchange _ c.args.weights _ _ c.requires.paired c.requires.unmatched.0 c.requires.unmatched.1 _ c.reach-s.ensures c.if-s-lt32.false _ c.lightest-h.ensures _ _ _ c.get-x.ensures refl refl (c.less.ensures.0 c.if-less.true) _
+    (c.exchange.ensures _ (giving_at _ c.args.weights _ _ c.requires.paired c.requires.unmatched.0 c.requires.unmatched.1 _ c.reach-s.ensures c.if-s-lt32.false _ c.lightest-h.ensures _ _ _ c.get-x.ensures refl refl (c.less.ensures.0 c.if-less.true)))
+
+pub returns : goal.returns
+returns c = tried_none _ c.args.weights _ _ c.requires.paired c.requires.unmatched.0 c.requires.unmatched.1 _ c.reach-s.ensures c.if-s-lt32.false _ c.lightest-h.ensures _ _ _ c.get-x.ensures refl refl (c.less.ensures.1 c.if-less.false)
