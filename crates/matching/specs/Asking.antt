@@ -1,5 +1,5 @@
 -- The ports that have a request, as a mask; the weights of one side, tested by such a mask; and the length of a table. Assumes nothing.
-use Rattle.std.specs.Prelude.{◌≡◌, ◌⊎◌, Bool, true, false, not, ◌&&◌, ◌||◌, List, ℕ, ◌+◌, ◌*◌, ◌≤◌, ◌<◌, max}
+use Rattle.std.specs.Prelude.{◌≡◌, ◌⊎◌, Bool, true, false, ◌&&◌, ◌||◌, List, ℕ, ◌+◌, ◌*◌, ◌≤◌, ◌<◌, max}
 use Rattle.std.proofs.Common.{sym, ap, ap₂, ◌∙◌, inl, inr, mul-le-mul, add-one, arith}
 use Rattle.masks.specs.Paper.{bit, has, every, some}
 use Rattle.masks.specs.Tests.{cases, or_left, or_right, or_false, every_cong}

@@ -1,5 +1,7 @@
 // Matching: from requests and port weights, from a table of counts and a hold, and the rank form. Each function takes any arguments whatever:
 // what lies outside its limit gets its refusal, in document 01's order.
+#![tactic(auto)]
+
 mod ranks;
 mod refusals;
 mod table;

@@ -1,5 +1,7 @@
 // One queue of the card: a ring of D places on two lent stretches of memory, one for cells and one for arrival stamps. D is the stretches' length.
 // What cannot be a queue is left as it is, and sends nothing.
+#![tactic(auto)]
+
 ghost use Rattle.std.specs.Prelude.{◌≡◌};
 ghost use Rattle.queue.specs.Paper.{ring_of, sent_of, stands, queue_fits, wait_of, store, send};
 

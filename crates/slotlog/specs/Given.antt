@@ -3,7 +3,6 @@ use Rattle.std.specs.Prelude.{◌≡◌, ℕ, ◌+◌, ◌*◌, ◌≤◌, ◌<�
 use Rattle.std.proofs.Common.{sym, arith}
 use Rattle.std.proofs.Math.Path.{ap, ap₂}
 use mathlib.Core.List.{List, ◌++◌}
-use Rattle.card.specs.Paper.{ports}
 use Rattle.card.specs.Limits.{Sizes}
 use Rattle.matches.specs.Paper.{at}
 use Rattle.slotlog.specs.Paper.{bytes, joined, slot_refusal, record_length, trailer_length, longest, slot_bytes, trailer_bytes, log_bytes, given_slot, log_length}

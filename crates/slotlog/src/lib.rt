@@ -4,6 +4,8 @@
 // first record is a banner and not read. A log has at most 32,016 bytes.
 // Each function takes any arguments whatever: what lies outside its limit gets its refusal, in document 01's order. What was written passes the
 // check and is read back as it was given, and a log without a banner that passes, read and written again, is the same bytes: specs/RoundTrip.antt.
+#![tactic(auto)]
+
 mod reading;
 mod records;
 mod writing;
