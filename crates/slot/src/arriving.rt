@@ -28,7 +28,7 @@ pub fn take_all(
     stamps: &mut [u32],
 ) -> Taken
     requires ready { Ready (parts_of card slot counters heads.now counts.old cells.old stamps.old) }
-    requires arrivals_value { arrivals_fit card.m card.n arrivals ≡ true }
+    requires arrivals { arrivals_fit card.m card.n arrivals ≡ true }
     ensures { taking_of card slot result heads.now counts.new cells.new stamps.new ≡ take_all arrivals card.m (begun (parts_of card slot counters heads.now counts.old cells.old stamps.old)) }
 {
     let outputs = arrivals.outputs;

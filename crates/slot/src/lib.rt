@@ -1,5 +1,7 @@
 // The card's record, the fresh card, and one slot. Each function takes any arguments whatever: what lies outside its limit gets its refusal, in
 // document 01's order, and a refused call changes nothing.
+#![tactic(auto)]
+
 mod arriving;
 mod refusals;
 mod sending;
