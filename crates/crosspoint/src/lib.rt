@@ -1,6 +1,8 @@
 // The C interface: matching, the card and the slot log on numbers and lent lists, as include/crosspoint.h declares them. Every function answers the
 // number of the first refusal that applies, 0 where accepted. A list whose length is fixed is tested first (refusal 2), and a refused call changes
 // nothing in any list.
+#![tactic(auto)]
+
 mod lists;
 mod records;
 

@@ -1,4 +1,6 @@
 // The lines of the replay, made in memory. A line has room for 1,536 bytes, and none is longer than 1,454.
+#![tactic(auto)]
+
 mod text;
 
 ghost use Rattle.std.specs.Prelude.{◌≡◌};

@@ -1,0 +1,14 @@
+-- `crosspoint::lists::numbers_in` meets its contract. Assumes nothing.
+use Rattle.std.proofs.Common.{◌≡◌, refl, ◌∙◌, arith, rules}
+use lib.ListN.{length-set}
+use Rattle.crosspoint.specs.Copy.{front_one, front_all}
+use Rattle.crosspoint.proofs.lists.numbers_in.Goals as goal
+
+pub loop-k-init : goal.loop-k-init
+loop-k-init c = (search rules, refl, search rules)
+
+pub loop-k-preserved : goal.loop-k-preserved
+loop-k-preserved c = let l = c.loop-k in (search rules, front_one c.args.list.now l.copy l.k _ 0 (omega (arith, l.invariant.2)) (search rules) l.invariant.1 refl, length-set l.copy _ _ ∙ l.invariant.2)
+
+pub returns : goal.returns
+returns c = let l = c.loop-k in let e : l.k ≡ 32 = omega arith in front_all {n = 32} _ l.copy l.invariant.2 (search rules) (rw e at l.invariant.1)
