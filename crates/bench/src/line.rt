@@ -1,6 +1,6 @@
 // A line of output, made of one field after the other and written at once.
 use card::Out;
-use libc::STDOUT_FILENO;
+use std::io::Print;
 
 // How many bytes a line has room for: the longest has 97 numbers, which take less than 1,100.
 const ROOM: usize = 2048;
@@ -50,12 +50,12 @@ impl Line {
     }
 
     // Writes the line and a line feed. Its end is always within it: the test spares a contract that says so.
-    pub fn print(self) {
+    pub fn print<P: Print>(self, rt: &P) {
         let line = self.text(b"\n");
         let bytes = line.bytes;
         let end = line.end;
         if end <= ROOM {
-            io::write_all(STDOUT_FILENO, &bytes[..end]);
+            streams::write_all(rt, &bytes[..end]);
         }
     }
 

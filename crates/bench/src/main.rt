@@ -3,14 +3,16 @@
 // 1, table match: then m, n, hold, how many counts there are, the counts, and two bytes more where their number is odd;
 // 2, weighted match, and 3, rank form: then m, n, 32 rows, 32 input weights and 32 output weights.
 // Another kind, or a case cut short, ends the program with the line `?`.
+#![tactic(auto)]
+
 mod line;
 
 ghost use Rattle.std.specs.Prelude.{◌≤◌, length};
 ghost use Rattle.io.specs.Counts.{IsPrefixLen};
 
-use libc::{STDIN_FILENO, STDOUT_FILENO};
 use line::Line;
 use matching::{Answer, RankForm};
+use std::io::{Input, Print};
 
 // The longest list of counts that is read: more than a card has queues, since a list may be too long.
 const MOST_COUNTS: usize = 1100;
@@ -18,19 +20,20 @@ const MOST_COUNTS: usize = 1100;
 // How many bytes a case of weights has.
 const WEIGHTS_SIZE: usize = 396;
 
-fn main() {
+fn main(rt: HostRuntime) {
+    let mut reader = rt.reader();
     let mut input = io::large_buffer();
-    let len = io::read_full(STDIN_FILENO, &mut input);
-    cases(&input[..len]);
+    let len = streams::read_full(&mut reader, &mut input);
+    cases(&rt, &input[..len]);
 }
 
 // Every case, up to the end or to what is none.
-fn cases(bytes: &[u8]) {
+fn cases<P: Print>(rt: &P, bytes: &[u8]) {
     let mut at = 0;
     while at < bytes.len() {
-        let size = case(&bytes[at..]);
+        let size = case(rt, &bytes[at..]);
         if size == 0 {
-            io::write_all(STDOUT_FILENO, b"?\n");
+            streams::write_all(rt, b"?\n");
             return;
         }
         at += size;
@@ -38,18 +41,18 @@ fn cases(bytes: &[u8]) {
 }
 
 // Prints the answer to the case that these bytes start with, and says how many bytes it has: 0 where there is no whole case. So do the three below.
-fn case(bytes: &[u8]) -> usize
+fn case<P: Print>(rt: &P, bytes: &[u8]) -> usize
     ensures { result ≤ length bytes.now }
 {
     match u32_at(bytes, 0) {
-        1 => table_case(bytes),
-        2 => weighted_case(bytes),
-        3 => rank_case(bytes),
+        1 => table_case(rt, bytes),
+        2 => weighted_case(rt, bytes),
+        3 => rank_case(rt, bytes),
         _ => 0,
     }
 }
 
-fn table_case(bytes: &[u8]) -> usize
+fn table_case<P: Print>(rt: &P, bytes: &[u8]) -> usize
     ensures { result ≤ length bytes.now }
 {
     let m = u32_at(bytes, 4);
@@ -64,11 +67,11 @@ fn table_case(bytes: &[u8]) -> usize
         return 0;
     }
     let counts = counts_of(bytes, len);
-    print_answer(matching::table_match(m, n, &counts[..len], hold));
+    print_answer(rt, matching::table_match(m, n, &counts[..len], hold));
     size
 }
 
-fn weighted_case(bytes: &[u8]) -> usize
+fn weighted_case<P: Print>(rt: &P, bytes: &[u8]) -> usize
     ensures { result ≤ length bytes.now }
 {
     if bytes.len() < WEIGHTS_SIZE {
@@ -79,11 +82,11 @@ fn weighted_case(bytes: &[u8]) -> usize
     let rows = list_at(bytes, 12);
     let inputs = list_at(bytes, 140);
     let outputs = list_at(bytes, 268);
-    print_answer(matching::weighted_match(m, n, rows, inputs, outputs));
+    print_answer(rt, matching::weighted_match(m, n, rows, inputs, outputs));
     WEIGHTS_SIZE
 }
 
-fn rank_case(bytes: &[u8]) -> usize
+fn rank_case<P: Print>(rt: &P, bytes: &[u8]) -> usize
     ensures { result ≤ length bytes.now }
 {
     if bytes.len() < WEIGHTS_SIZE {
@@ -94,12 +97,12 @@ fn rank_case(bytes: &[u8]) -> usize
     let rows = list_at(bytes, 12);
     let inputs = list_at(bytes, 140);
     let outputs = list_at(bytes, 268);
-    print_form(matching::rank_form(m, n, rows, inputs, outputs));
+    print_form(rt, matching::rank_form(m, n, rows, inputs, outputs));
     WEIGHTS_SIZE
 }
 
 // M, the refusal, the number of pairs, their weight, and each input's partner.
-fn print_answer(answer: Answer) {
+fn print_answer<P: Print>(rt: &P, answer: Answer) {
     let verdict = answer.verdict;
     let partners = answer.partners;
     Line::new(b'M')
@@ -107,11 +110,11 @@ fn print_answer(answer: Answer) {
         .number(answer.size)
         .number(answer.weight)
         .outputs(partners)
-        .print();
+        .print(rt);
 }
 
 // K, the refusal, the rows, the input ranks and the output ranks.
-fn print_form(form: RankForm) {
+fn print_form<P: Print>(rt: &P, form: RankForm) {
     let verdict = form.verdict;
     let rows = form.rows;
     let inputs = form.inputs;
@@ -121,7 +124,7 @@ fn print_form(form: RankForm) {
         .numbers(rows)
         .numbers(inputs)
         .numbers(outputs)
-        .print();
+        .print(rt);
 }
 
 // The counts of a table, and 0 from place `len` on. What it ensures is what lending the first `len` asks.

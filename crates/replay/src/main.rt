@@ -1,8 +1,11 @@
 // Reads a log on standard input and prints its replay. A log has at most 32,016 bytes: one byte more is read, so that a longer one is refused.
-use libc::STDIN_FILENO;
+#![tactic(auto)]
 
-fn main() {
+use std::io::Input;
+
+fn main(rt: HostRuntime) {
+    let mut input = rt.reader();
     let mut log = [0u8; 32017];
-    let len = io::read_full(STDIN_FILENO, &mut log);
-    playback::replay(&log[..len]);
+    let len = streams::read_full(&mut input, &mut log);
+    playback::replay(&rt, &log[..len]);
 }

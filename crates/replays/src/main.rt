@@ -1,33 +1,36 @@
 // Replays many logs, one after another: each stands behind its length, four bytes, the lowest first. It ends where no whole length is left, or after
 // 1,000 logs. A length above 32,017 is taken as 32,017, as the replay reads no further.
+#![tactic(auto)]
+
 ghost use Rattle.std.specs.Prelude.{◌≡◌, ◌≤◌, length};
 
-use libc::STDIN_FILENO;
+use std::io::{Input, Print, Read};
 
-fn main() {
+fn main(rt: HostRuntime) {
+    let mut input = rt.reader();
     for _ in 0..1000u32 {
-        if !one() {
+        if !one(&rt, &mut input) {
             return;
         }
     }
 }
 
 // The next log, if there is one.
-fn one() -> bool {
+fn one<P: Print, R: Read>(rt: &P, input: &mut R) -> bool {
     let mut length = [0u8; 4];
-    if io::read_full(STDIN_FILENO, &mut length) < 4 {
+    if streams::read_full(input, &mut length) < 4 {
         return false;
     }
     let size = size_of(length);
     let mut log = room();
-    replay_into(&mut log[..size]);
+    replay_into(rt, input, &mut log[..size]);
     true
 }
 
 // Reads a log into this room, and replays it.
-fn replay_into(log: &mut [u8]) {
-    let len = io::read_full(STDIN_FILENO, log);
-    playback::replay(&log[..len]);
+fn replay_into<P: Print, R: Read>(rt: &P, input: &mut R, log: &mut [u8]) {
+    let len = streams::read_full(input, log);
+    playback::replay(rt, &log[..len]);
 }
 
 // The number that these four bytes are, and 32,017 where it is more.

@@ -1,1 +1,2 @@
 // Two answers that meet one promise are equal, function by function. Nothing to run: the statements are in specs/.
+#![tactic(auto)]
