@@ -1,4 +1,4 @@
-//! With the feature `library` the proved library is linked: `rt staticlib crosspoint` writes it.
+//! With the feature `library` the proved library is linked: `bin/library` writes it.
 
 fn main() {
     println!("cargo:rerun-if-changed=build.rs");

@@ -1,7 +1,7 @@
 /* crosspoint.h: the scheduler of a crosspoint card, Longest Port First with our rules for ties, holds, full queues and logs.
  *
  * A card joins up to 32 inputs (controllers) with up to 32 outputs (drives). In every slot each input and each output has at most one connection,
- * and one cell crosses each connection. Link target/staticlib/libcrosspoint.a (`rt staticlib crosspoint` writes it); besides the eight functions below
+ * and one cell crosses each connection. Link target/staticlib/libcrosspoint.a (`bin/library` writes it); besides the eight functions below
  * it needs memcpy and memset, and nothing else: no heap, no static data, no files, no clock.
  *
  * LIMITS

@@ -36,7 +36,7 @@ const USAGE: &str =
 /// Where a command that calls the proved library is not there.
 #[cfg(not(feature = "library"))]
 const NEEDS_LIBRARY: &str =
-    "this command needs the proved library: `rt staticlib crosspoint` in the \
+    "this command needs the proved library: `bin/library` in the \
      project's root, then `--features library`";
 
 fn main() -> ExitCode {

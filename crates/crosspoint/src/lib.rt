@@ -17,8 +17,7 @@ use matching::Answer;
 use slot::{Record, Stepped};
 
 // A match from a table of counts and a hold: refusals 2 (partners, totals), 1, 2, 3.
-#[unsafe(no_mangle)]
-pub extern "C" fn crosspoint_match_table(
+pub fn crosspoint_match_table(
     m: u32,
     n: u32,
     counts: &[u16],
@@ -36,8 +35,7 @@ pub extern "C" fn crosspoint_match_table(
 }
 
 // A match from requests and port weights: refusals 2 (all five lists), 1, 5, 6.
-#[unsafe(no_mangle)]
-pub extern "C" fn crosspoint_match_weights(
+pub fn crosspoint_match_weights(
     m: u32,
     n: u32,
     rows: &[u32],
@@ -64,8 +62,7 @@ pub extern "C" fn crosspoint_match_weights(
 }
 
 // The rank form, weights in and ranks out: refusals 2 (all three lists), 1, 5, 6.
-#[unsafe(no_mangle)]
-pub extern "C" fn crosspoint_rank_form(
+pub fn crosspoint_rank_form(
     m: u32,
     n: u32,
     rows: &[u32],
@@ -97,8 +94,7 @@ pub extern "C" fn crosspoint_rank_form(
 }
 
 // A fresh card: refusals 2 (the record), 1, 2 (cells, stamps).
-#[unsafe(no_mangle)]
-pub extern "C" fn crosspoint_fresh(
+pub fn crosspoint_fresh(
     m: u32,
     n: u32,
     d: u32,
@@ -123,8 +119,7 @@ pub extern "C" fn crosspoint_fresh(
 }
 
 // One slot: refusals 2 (record, outputs, arriving, report), 7, 2 (cells, stamps), 3, 4.
-#[unsafe(no_mangle)]
-pub extern "C" fn crosspoint_slot(
+pub fn crosspoint_slot(
     kept: &mut [u32],
     cells: &mut [u32],
     stamps: &mut [u32],
@@ -152,8 +147,7 @@ pub extern "C" fn crosspoint_slot(
 
 // The whole-log check: refusals 2 (the answer), 8, 1, 9, then the records in order, 3 before 4 in each. The refusal in the low half, the record's
 // number, counted from 1, in the high half.
-#[unsafe(no_mangle)]
-pub extern "C" fn crosspoint_log_check(log: &[u8], answer: &mut [u32]) -> u64
+pub fn crosspoint_log_check(log: &[u8], answer: &mut [u32]) -> u64
     ensures { after result answer.new ≡ check_lists log.now answer.old }
 {
     if answer.len() != 5 {
@@ -175,8 +169,7 @@ pub extern "C" fn crosspoint_log_check(log: &[u8], answer: &mut [u32]) -> u64
 }
 
 // One slot of a log: refusals 2 (hold, outputs, cells), 8, 1, 9, 11, then 3 and 4 of that record.
-#[unsafe(no_mangle)]
-pub extern "C" fn crosspoint_log_read(
+pub fn crosspoint_log_read(
     log: &[u8],
     slot: u32,
     hold: &mut [u32],
@@ -204,8 +197,7 @@ pub extern "C" fn crosspoint_log_read(
 }
 
 // The writer: refusals 1, 2, 8, then 3 and 4 by record, then 10. The refusal in the low half, the length written in the high half.
-#[unsafe(no_mangle)]
-pub extern "C" fn crosspoint_log_write(
+pub fn crosspoint_log_write(
     m: u32,
     n: u32,
     d: u32,
