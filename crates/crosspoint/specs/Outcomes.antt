@@ -1,11 +1,9 @@
 -- The outcome of a call, refused or done, and the lists of each function as one value. Assumes nothing.
-use Rattle.std.specs.Prelude.{◌≡◌, refl, ◌≢◌, Bool, true, false, List, ℕ, zero, suc, eqb}
-use Rattle.std.proofs.Common.{eqb-true}
-use Rattle.masks.specs.Tests.{and_both}
-use Rattle.card.specs.Paper.{number_of, unless}
+use Rattle.std.specs.Prelude.{List, ℕ}
+use Rattle.card.specs.Paper.{number_of}
 use Rattle.slot.specs.declared.Stepped.{Stepped}
 use Rattle.slot.specs.Answers.{report_of}
-use Rattle.crosspoint.specs.Paper.{Outcome, outcome, record_long, report_long, record_list, report_list, answer_long, weights_long, slot_long, read_long, Matched, Weights, Lent, Slotted, ReadLists}
+use Rattle.crosspoint.specs.Paper.{Outcome, outcome, record_list, report_list, Matched, Weights, Lent, Slotted, ReadLists}
 
 -- ---- the lists of each function, as its contract names them
 
@@ -37,73 +35,3 @@ gave kept report = record { kept = kept; report = report }
 
 abbrev pub given_slot : Stepped → (kept report : List ℕ) → Outcome Gave
 given_slot done kept report = outcome (number_of done.verdict) (gave (record_list done.record) (report_list (report_of done.report))) (gave kept report)
-
--- ---- the ways out of a call
-
--- a refusal: the lists stay
-pub refused : {A : Type 0} (r q : ℕ) (done was : A) → r ≡ q → r ≢ 0 → after r was ≡ outcome q done was
-unfolding outcome
-refused zero q done was e d = absurd (d refl)
-refused (suc k) q done was e d = rw (← e)
-
--- none: what was done
-pub accepted : {A : Type 0} (q : ℕ) (now done was : A) → q ≡ 0 → now ≡ done → after 0 now ≡ outcome q done was
-unfolding outcome
-accepted q now done was e f = rw (e, f)
-
--- a list of fixed length has another: refusal 2, before all else
-pub short : {A : Type 0} (test : Bool) (next : ℕ) (done was : A) → test ≡ false → after 2 was ≡ outcome (unless test 2 next) done was
-unfolding outcome
-short test next done was e = rw e
-
--- each has its length: what comes after that test decides
-pub passed : {A : Type 0} (test : Bool) (k next : ℕ) (done was : A) → test ≡ true → outcome next done was ≡ outcome (unless test k next) done was
-passed test k next done was e = rw e
-
--- ---- lengths that a test has found right
-
-pub record AnswerLong (a b : ℕ) : Type 0 where
-  pub partners : a ≡ 32
-  pub totals : b ≡ 2
-
-pub answer_long_lem : (a b : ℕ) → answer_long a b ≡ true → AnswerLong a b
-unfolding answer_long
-answer_long_lem a b e = let h = and_both _ _ e in record { partners = eqb-true _ _ h.0; totals = eqb-true _ _ h.1 }
-
-pub record WeightsLong (a b c : ℕ) : Type 0 where
-  pub rows : a ≡ 32
-  pub inputs : b ≡ 32
-  pub outputs : c ≡ 32
-
-pub weights_long_lem : (a b c : ℕ) → weights_long a b c ≡ true → WeightsLong a b c
-unfolding weights_long
-weights_long_lem a b c e =
-    let h = and_both (eqb a 32) _ e in
-    let k = and_both (eqb b 32) _ h.1 in
-    record { rows = eqb-true _ _ h.0; inputs = eqb-true _ _ k.0; outputs = eqb-true _ _ k.1 }
-
-pub record ReadLong (a b c : ℕ) : Type 0 where
-  pub hold : a ≡ 1
-  pub outputs : b ≡ 32
-  pub cells : c ≡ 32
-
-pub read_long_lem : (a b c : ℕ) → read_long a b c ≡ true → ReadLong a b c
-unfolding read_long
-read_long_lem a b c e =
-    let h = and_both (eqb a 1) _ e in
-    let k = and_both (eqb b 32) _ h.1 in
-    record { hold = eqb-true _ _ h.0; outputs = eqb-true _ _ k.0; cells = eqb-true _ _ k.1 }
-
-pub record SlotLong (a b c d : ℕ) : Type 0 where
-  pub kept : a ≡ record_long
-  pub outputs : b ≡ 32
-  pub arriving : c ≡ 32
-  pub report : d ≡ report_long
-
-pub slot_long_lem : (a b c d : ℕ) → slot_long a b c d ≡ true → SlotLong a b c d
-unfolding slot_long
-slot_long_lem a b c d e =
-    let h = and_both (eqb a record_long) _ e in
-    let k = and_both (eqb b 32) _ h.1 in
-    let l = and_both (eqb c 32) _ k.1 in
-    record { kept = eqb-true _ _ h.0; outputs = eqb-true _ _ k.0; arriving = eqb-true _ _ l.0; report = eqb-true _ _ l.1 }

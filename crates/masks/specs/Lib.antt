@@ -1,5 +1,3 @@
 pub mod Paper
 pub mod Tests
 pub mod Sum
-pub mod Laws
-pub mod Count

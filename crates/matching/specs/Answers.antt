@@ -9,8 +9,8 @@ use Rattle.card.specs.declared.Out.{Out}
 use Rattle.card.specs.declared.Verdict.{Verdict}
 use Rattle.matches.specs.Paper.{at, tab, asks, partner, size_of, weight_of, best, in_asks, out_asks, max_weight, rank, in_ranks, out_ranks, weight_refusal, answer, ranked}
 use Rattle.matches.specs.Paper as paper
-use Rattle.matches.specs.Computed.{best_is_best}
-use Rattle.matches.specs.Accepted.{weights_ok}
+use Rattle.matches.proofs.Computed.{best_is_best}
+use Rattle.matches.proofs.Accepted.{weights_ok}
 use Rattle.search.specs.First.{numbers}
 use Rattle.matching.specs.declared.Answer.{Answer}
 use Rattle.matching.specs.declared.RankForm.{RankForm}

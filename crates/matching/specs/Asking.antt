@@ -3,7 +3,7 @@ use Rattle.std.specs.Prelude.{◌≡◌, ◌⊎◌, Bool, true, false, ◌&&◌,
 use Rattle.std.proofs.Common.{sym, ap, ap₂, ◌∙◌, inl, inr, mul-le-mul, add-one, arith}
 use Rattle.masks.specs.Paper.{bit, has, every, some}
 use Rattle.masks.specs.Tests.{cases, or_left, or_right, or_false, every_cong}
-use Rattle.masks.specs.Laws.{bit_lt, bit_of_zero, has_on, has_off, on_has, off_has}
+use Rattle.masks.proofs.Laws.{bit_lt, bit_of_zero, has_on, has_off, on_has, off_has}
 use Rattle.card.specs.Paper.{ports, ports_fit}
 use Rattle.card.specs.Limits.{ports_are}
 use Rattle.matches.specs.Paper.{at, asks, in_asks, out_asks, weight_fits, weights_fit}

@@ -5,7 +5,7 @@ use Rattle.std.proofs.lemmas.List.{length-replicate, get_or-replicate}
 use Rattle.masks.specs.Paper.{keep}
 use Rattle.masks.specs.Tests.{lt_or_ge, eq_or_ne, keep_lt, keep_ge}
 use Rattle.matches.specs.Paper.{at, tab}
-use Rattle.matches.specs.Lists.{length_tab, get_or_tab, tab_cong}
+use Rattle.matches.proofs.Lists.{length_tab, get_or_tab, tab_cong}
 
 -- the first i places are filled
 unfoldable pub filled : (n i : ℕ) → (ℕ → ℕ) → List ℕ

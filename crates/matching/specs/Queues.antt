@@ -6,13 +6,13 @@ use Rattle.std.proofs.Math.Bool.{and-false}
 use borrow.Author.Tests.{lt-ltb, le-ltb}
 use Rattle.masks.specs.Paper.{bit, has, keep, With}
 use Rattle.masks.specs.Tests.{cases, lt_or_ge, eq_or_ne, keep_lt, keep_ge}
-use Rattle.masks.specs.Laws.{same_bits, no_bits, has_on, has_off}
+use Rattle.masks.proofs.Laws.{same_bits, no_bits, has_on, has_off}
 use Rattle.card.specs.Limits.{Ports}
 use Rattle.card.specs.Paper.{ports}
 use Rattle.matches.specs.Paper.{at, max_weight, mask, count, wants, table_rows}
-use Rattle.matches.specs.Lists.{tab_cong}
+use Rattle.matches.proofs.Lists.{tab_cong}
 use Rattle.matches.specs.Accepted.{TableOk}
-use Rattle.matches.specs.Table.{bit_mask, mask_lt, wants_in}
+use Rattle.matches.proofs.Table.{bit_mask, mask_lt, wants_in}
 use Rattle.matching.specs.Fill.{filled}
 
 -- ---- the list

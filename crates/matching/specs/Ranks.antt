@@ -13,7 +13,7 @@ use Rattle.masks.specs.Paper.{keep}
 use Rattle.masks.specs.Tests.{clash}
 use Rattle.card.specs.Paper.{ports}
 use Rattle.matches.specs.Paper.{tab, member, those, distinct, smaller, rank}
-use Rattle.matches.specs.Lists.{tab_cong}
+use Rattle.matches.proofs.Lists.{tab_cong}
 
 -- one port more in front of the distinct weights l
 unfoldable pub add_to : Bool → ℕ → List ℕ → List ℕ

@@ -1,14 +1,1 @@
 pub mod Paper
-pub mod Kept
-pub mod Turns
-pub mod Through
-pub mod Stamps
-pub mod Start
-pub mod Arrived
-pub mod Departed
-pub mod Touched
-pub mod Order
-pub mod Sums
-pub mod Counted
-pub mod Run
-pub mod Matches

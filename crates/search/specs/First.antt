@@ -11,15 +11,15 @@ use Rattle.std.proofs.lemmas.Bool.{lt-leb}
 use Rattle.masks.specs.Paper.{bit, has, keep, Without, Below, Lowest}
 use Rattle.masks.specs.Tests.{lt_or_ge, eq_or_ne, clash, and_both, keep_lt}
 use Rattle.masks.specs.Sum.{sum_cong}
-use Rattle.masks.specs.Laws.{bit_lt, bit_of_zero, has_on, on_has, off_has}
+use Rattle.masks.proofs.Laws.{bit_lt, bit_of_zero, has_on, on_has, off_has}
 use Rattle.card.specs.Paper.{none, out}
 use Rattle.card.specs.declared.Out.{Out}
 use Rattle.matches.specs.Paper.{at, member, asks, Match, total, weight, partner, weight_of, gain, add, best_from, best}
-use Rattle.matches.specs.Sides.{Greatest}
-use Rattle.matches.specs.Computed.{best_is_best}
-use Rattle.matches.specs.Demand3.{list_greatest}
-use Rattle.matches.specs.Flip.{put, put_same, put_other, put_match, total_join, total_drop}
-use Rattle.matches.specs.Rest.{can_take, rest_e, rest_weight, option, choose_output, choose_none, taken_of, taken_set_output, taken_none, Fixed, fixed_begin, fixed_end, fixed_output, fixed_kept}
+use Rattle.matches.proofs.Sides.{Greatest}
+use Rattle.matches.proofs.Computed.{best_is_best}
+use Rattle.matches.proofs.Demand3.{list_greatest}
+use Rattle.matches.proofs.Flip.{put, put_same, put_other, put_match, total_join, total_drop}
+use Rattle.matches.proofs.Rest.{can_take, rest_e, rest_weight, option, choose_output, choose_none, taken_of, taken_set_output, taken_none, Fixed, fixed_begin, fixed_end, fixed_output, fixed_kept}
 use Rattle.search.specs.declared.pairing.Pairing.{Pairing}
 use Rattle.search.specs.declared.problem.Problem.{Problem}
 use Rattle.search.specs.declared.choice.Rest.{Rest}

@@ -7,11 +7,11 @@ use Rattle.std.proofs.Math.Dec.{eqb}
 use Rattle.masks.specs.Paper.{keep}
 use Rattle.masks.specs.Tests.{lt_or_ge, keep_lt, keep_ge}
 use Rattle.masks.specs.Sum.{sum_mono}
-use Rattle.masks.specs.Laws.{on_has}
+use Rattle.masks.proofs.Laws.{on_has}
 use Rattle.matches.specs.Paper.{at, asks, Match}
-use Rattle.matches.specs.Owner.{owner, owner_lt}
-use Rattle.matches.specs.Certificate.{in_w, parts, sets_best}
-use Rattle.matches.specs.Sides.{owner_match, out_is_in, Greatest}
+use Rattle.matches.proofs.Owner.{owner, owner_lt}
+use Rattle.matches.proofs.Certificate.{in_w, parts, sets_best}
+use Rattle.matches.proofs.Sides.{owner_match, out_is_in, Greatest}
 use Rattle.search.specs.declared.pairing.Pairing.{Pairing}
 use Rattle.search.specs.Pair.{Pairs, Paired, Swapped}
 use Rattle.search.specs.Stage.{wants}

@@ -4,7 +4,7 @@ use Rattle.std.proofs.Common.{sym, ap, ◌∙◌, arith}
 use Rattle.std.proofs.lemmas.List.{get_or-replicate}
 use Rattle.std.proofs.Math.Decide.{ℕ_discrete}
 use Rattle.masks.specs.Paper.{bit, With, Without}
-use Rattle.masks.specs.Laws.{below_all}
+use Rattle.masks.proofs.Laws.{below_all}
 use Rattle.matches.specs.Paper.{at}
 use Rattle.search.specs.declared.pairing.Pairing.{Pairing}
 

@@ -5,11 +5,11 @@ use Rattle.std.proofs.Math.Decide.{ℕ_discrete}
 use Rattle.std.proofs.lemmas.List.{length-replicate, get_or-replicate}
 use Rattle.masks.specs.Paper.{bit, has, keep, some, With, Without}
 use Rattle.masks.specs.Tests.{cases, clash, off, some_of, some_at}
-use Rattle.masks.specs.Laws.{bit_lt, bit_of_zero, no_bits, has_on, has_off, on_has, off_has}
+use Rattle.masks.proofs.Laws.{bit_lt, bit_of_zero, no_bits, has_on, has_off, on_has, off_has}
 use Rattle.card.specs.Paper.{ports}
 use Rattle.matches.specs.Paper.{at, tab, asks, mask, in_asks}
-use Rattle.matches.specs.Lists.{get_or_tab}
-use Rattle.matches.specs.Table.{bit_mask, mask_lt}
+use Rattle.matches.proofs.Lists.{get_or_tab}
+use Rattle.matches.proofs.Table.{bit_mask, mask_lt}
 use Rattle.search.specs.declared.problem.Problem.{Problem}
 use Rattle.search.specs.Problem.{Asking, Sound, WithoutPair, LeftOf}
 

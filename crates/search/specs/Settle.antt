@@ -3,10 +3,10 @@ use Rattle.std.specs.Prelude.{◌≡◌, refl, ◌⊎◌, List, ℕ, ◌+◌, �
 use Rattle.std.proofs.Common.{sym, ap, ◌∙◌, inl, inr, arith}
 use Rattle.std.proofs.Math.Decide.{ℕ_discrete}
 use Rattle.masks.specs.Paper.{bit, has, Without}
-use Rattle.masks.specs.Laws.{bit_of_zero, has_on, on_has, off_has}
+use Rattle.masks.proofs.Laws.{bit_of_zero, has_on, on_has, off_has}
 use Rattle.matches.specs.Paper.{at, asks}
-use Rattle.matches.specs.Certificate.{SetFor}
-use Rattle.matches.specs.Heaviest.{closed_alone}
+use Rattle.matches.proofs.Certificate.{SetFor}
+use Rattle.matches.proofs.Heaviest.{closed_alone}
 use Rattle.search.specs.declared.reach.Search.{Search}
 use Rattle.search.specs.declared.pairing.Pairing.{Pairing}
 use Rattle.search.specs.Pair.{Paired}

@@ -4,8 +4,8 @@ use Rattle.std.proofs.Common.{sym, ap, ◌∙◌, arith}
 use Rattle.std.proofs.Math.Decide.{ℕ_discrete}
 use Rattle.masks.specs.Paper.{bit, sum, With}
 use Rattle.masks.specs.Sum.{sum_zero}
-use Rattle.masks.specs.Laws.{bit_lt, bit_of_zero}
-use Rattle.masks.specs.Count.{count_with, count_le}
+use Rattle.masks.proofs.Laws.{bit_lt, bit_of_zero}
+use Rattle.masks.proofs.Counting.{count_with, count_le}
 use Rattle.matches.specs.Paper.{at}
 use Rattle.search.specs.Pair.{Put, Pairs}
 

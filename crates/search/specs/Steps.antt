@@ -3,7 +3,7 @@ use Rattle.std.specs.Prelude.{◌≡◌, List, ℕ, ◌+◌, ◌-◌, ◌≤◌,
 use Rattle.std.proofs.Common.{sym, ap, ◌∙◌, arith}
 use Rattle.std.proofs.Math.Decide.{dec_lt}
 use Rattle.masks.specs.Paper.{bit, Lowest}
-use Rattle.masks.specs.Laws.{bit_lt, bit_of_zero}
+use Rattle.masks.proofs.Laws.{bit_lt, bit_of_zero}
 use Rattle.matches.specs.Paper.{at}
 use Rattle.search.specs.declared.reach.Search.{Search}
 use Rattle.search.specs.declared.pairing.Pairing.{Pairing}

@@ -1,6 +1,5 @@
 pub mod Paper
 pub mod Answers
-pub mod Refused
 pub mod Stretch
 pub mod Ready
 pub mod Arriving

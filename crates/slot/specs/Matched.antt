@@ -5,10 +5,10 @@ use Rattle.std.proofs.Math.Logic.{inl, inr}
 use Rattle.masks.specs.Tests.{clash}
 use Rattle.card.specs.Paper.{ports, none, names_below, index}
 use Rattle.matches.specs.Paper.{at, partner, Best, best, count, wants, table_rows, table_in, table_out, table_refusal, table_match, answer, size_of, weight_of}
-use Rattle.matches.specs.Computed.{best_is_best}
-use Rattle.matches.specs.Accepted.{ok_table}
-use Rattle.matches.specs.Table.{wants_in, wants_at, table_asks}
-use Rattle.matches.specs.Lists.{partner_in}
+use Rattle.matches.proofs.Computed.{best_is_best}
+use Rattle.matches.proofs.Accepted.{ok_table}
+use Rattle.matches.proofs.Table.{wants_in, wants_at, table_asks}
+use Rattle.matches.proofs.Lists.{partner_in}
 use Rattle.slot.specs.Paper.{State, match_of}
 use Rattle.slot.specs.Stretch.{index_in}
 use Rattle.slot.specs.Ready.{Ready, used, used_small}

@@ -13,7 +13,7 @@ use Rattle.card.specs.declared.Arrivals.{Arrivals}
 use Rattle.card.specs.declared.Out.{Out}
 use Rattle.card.specs.Paper.{ports, none, out, output_at, cell_at, no_arrivals}
 use Rattle.matches.specs.Paper.{tab}
-use Rattle.matches.specs.Lists.{get_or_tab, tab_cong}
+use Rattle.matches.proofs.Lists.{get_or_tab, tab_cong}
 use Rattle.slotlog.specs.Paper.{arrivals_of}
 
 -- the arrivals, with an output and a cell at input i

@@ -8,7 +8,7 @@ use Rattle.std.proofs.Math.Arith.{digits_lt, digits_div, digits_mod}
 use Rattle.card.specs.declared.Arrivals.{Arrivals}
 use Rattle.card.specs.Paper.{output_at, cell_at}
 use Rattle.matches.specs.Paper.{at, tab}
-use Rattle.matches.specs.Lists.{length_tab, get_or_tab}
+use Rattle.matches.proofs.Lists.{length_tab, get_or_tab}
 use Rattle.slotlog.specs.Paper.{Slot, slot_refusal, record_length, trailer_length, m_of, n_of, d_of, count_of, slot_of, Checked, check, Read, read, log_bytes, given_slot, Written, write}
 use Rattle.slotlog.specs.Numbers.{Bytes}
 use Rattle.slotlog.specs.Arrived.{output_of, cell_of, arrivals_cong}

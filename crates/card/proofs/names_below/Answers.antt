@@ -1,6 +1,6 @@
 -- `card::names_below` meets its contract. Assumes nothing.
 use Rattle.std.proofs.Common.{rules}
-use Rattle.card.specs.Names.{names_law}
+use Rattle.card.proofs.Names.{names_law}
 use Rattle.card.proofs.names_below.Goals as goal
 
 pub returns : goal.returns

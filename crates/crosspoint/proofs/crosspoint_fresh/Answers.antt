@@ -2,8 +2,8 @@
 use Rattle.std.proofs.Common.{sym, ◌∙◌}
 use borrow.Author.Tests.{eq-eqb, ne_eqb}
 use Rattle.crosspoint.specs.Paper.{fresh_lists}
-use Rattle.crosspoint.specs.Outcomes.{short}
-use Rattle.crosspoint.specs.Cards.{fresh_refused, fresh_done}
+use Rattle.crosspoint.proofs.Outcomes.{short}
+use Rattle.crosspoint.proofs.Cards.{fresh_refused, fresh_done}
 use Rattle.crosspoint.proofs.crosspoint_fresh.Goals as goal
 
 pub returns-then-kept-ne2056 : goal.returns-then-kept-ne2056

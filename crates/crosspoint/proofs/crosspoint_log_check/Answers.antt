@@ -6,8 +6,8 @@ use lib.Seq.{lt-length-sets}
 use borrow.Author.Tests.{eq-eqb, ne_eqb}
 use Rattle.slotlog.specs.Answers.{checked_of}
 use Rattle.crosspoint.specs.Paper.{halves}
-use Rattle.crosspoint.specs.Logs.{check_short, check_refused, check_passed}
-use Rattle.crosspoint.specs.Copy.{copy_whole}
+use Rattle.crosspoint.proofs.Logs.{check_short, check_refused, check_passed}
+use Rattle.crosspoint.proofs.Copy.{copy_whole}
 use Rattle.crosspoint.proofs.crosspoint_log_check.Goals as goal
 
 pub returns-then-answer-ne5 : goal.returns-then-answer-ne5

@@ -6,8 +6,9 @@ use lib.ListN.{length}
 use Rattle.search.specs.First.{numbers}
 use Rattle.slotlog.specs.Paper.{Read}
 use Rattle.crosspoint.specs.Paper.{read_lists}
-use Rattle.crosspoint.specs.Outcomes.{read_into, short, refused, accepted, passed, read_long_lem}
-use Rattle.crosspoint.specs.Copy.{copy_whole}
+use Rattle.crosspoint.specs.Outcomes.{read_into}
+use Rattle.crosspoint.proofs.Outcomes.{short, refused, accepted, passed, read_long_lem}
+use Rattle.crosspoint.proofs.Copy.{copy_whole}
 use Rattle.crosspoint.proofs.crosspoint_log_read.Goals as goal
 
 pub returns-then-not-read_long : goal.returns-then-not-read_long

@@ -3,7 +3,8 @@ use Rattle.std.proofs.Common.{sym, ◌∙◌, ap₂}
 use mathlib.Core.Bool.{Bool}
 use Rattle.matches.specs.Paper.{Answer}
 use Rattle.crosspoint.specs.Paper.{given, match_table}
-use Rattle.crosspoint.specs.Outcomes.{matched, short, answer_long_lem}
+use Rattle.crosspoint.specs.Outcomes.{matched}
+use Rattle.crosspoint.proofs.Outcomes.{short, answer_long_lem}
 use Rattle.crosspoint.proofs.crosspoint_match_table.Goals as goal
 
 pub returns-then-not-answer_long : goal.returns-then-not-answer_long

@@ -4,7 +4,8 @@ use Rattle.masks.specs.Tests.{and_both}
 use mathlib.Core.Bool.{Bool, ◌&&◌}
 use Rattle.matches.specs.Paper.{Answer}
 use Rattle.crosspoint.specs.Paper.{given, match_weights}
-use Rattle.crosspoint.specs.Outcomes.{matched, short, answer_long_lem, weights_long_lem}
+use Rattle.crosspoint.specs.Outcomes.{matched}
+use Rattle.crosspoint.proofs.Outcomes.{short, answer_long_lem, weights_long_lem}
 use Rattle.crosspoint.proofs.crosspoint_match_weights.Goals as goal
 
 pub returns-then-not-also : goal.returns-then-not-also

@@ -3,8 +3,9 @@ use Rattle.std.proofs.Common.{sym, ◌∙◌, ◌≡◌, ap, ap₂, arith, rules
 use lib.ListN.{length}
 use Rattle.matches.specs.Paper.{RankForm}
 use Rattle.crosspoint.specs.Paper.{rank_lists}
-use Rattle.crosspoint.specs.Outcomes.{weights, short, refused, accepted, passed, weights_long_lem}
-use Rattle.crosspoint.specs.Copy.{copy_whole}
+use Rattle.crosspoint.specs.Outcomes.{weights}
+use Rattle.crosspoint.proofs.Outcomes.{short, refused, accepted, passed, weights_long_lem}
+use Rattle.crosspoint.proofs.Copy.{copy_whole}
 use Rattle.crosspoint.proofs.crosspoint_rank_form.Goals as goal
 
 pub returns-then-not-weights_long : goal.returns-then-not-weights_long

@@ -1,8 +1,8 @@
 -- `crosspoint::crosspoint_slot` meets its contract. Assumes nothing.
 use Rattle.std.proofs.Common.{sym, ◌∙◌}
 use Rattle.crosspoint.specs.Paper.{slot_lists}
-use Rattle.crosspoint.specs.Outcomes.{short, slot_long_lem}
-use Rattle.crosspoint.specs.Cards.{slot_unheld, slot_given}
+use Rattle.crosspoint.proofs.Outcomes.{short, slot_long_lem}
+use Rattle.crosspoint.proofs.Cards.{slot_unheld, slot_given}
 use Rattle.crosspoint.proofs.crosspoint_slot.Goals as goal
 
 pub returns-then-not-slot_long : goal.returns-then-not-slot_long

@@ -2,8 +2,9 @@
 use Rattle.std.proofs.Common.{sym, ◌∙◌, refl, ap₂}
 use mathlib.Core.List.{[], ◌∷◌}
 use Rattle.crosspoint.specs.Paper.{given}
-use Rattle.crosspoint.specs.Outcomes.{matched, refused, accepted}
-use Rattle.crosspoint.specs.Copy.{copy_whole}
+use Rattle.crosspoint.specs.Outcomes.{matched}
+use Rattle.crosspoint.proofs.Outcomes.{refused, accepted}
+use Rattle.crosspoint.proofs.Copy.{copy_whole}
 use Rattle.crosspoint.proofs.give.Goals as goal
 
 pub returns-then-refusal-ne0 : goal.returns-then-refusal-ne0

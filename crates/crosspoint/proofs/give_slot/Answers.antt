@@ -1,6 +1,7 @@
 -- `crosspoint::give_slot` meets its contract. Assumes nothing.
 use Rattle.std.proofs.Common.{sym, ◌∙◌, ap₂}
-use Rattle.crosspoint.specs.Outcomes.{gave, refused, accepted}
+use Rattle.crosspoint.specs.Outcomes.{gave}
+use Rattle.crosspoint.proofs.Outcomes.{refused, accepted}
 use Rattle.crosspoint.proofs.give_slot.Goals as goal
 
 pub returns-then-refusal-ne0 : goal.returns-then-refusal-ne0

@@ -1,5 +1,5 @@
 -- `masks::below` meets its contract. Assumes nothing.
-use Rattle.masks.specs.Laws.{below_fits, below_law, below_all}
+use Rattle.masks.proofs.Laws.{below_fits, below_law, below_all}
 use Rattle.masks.proofs.below.Goals as goal
 
 pub overflow_sub-result : goal.overflow_sub-result

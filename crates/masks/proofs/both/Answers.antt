@@ -1,5 +1,5 @@
 -- `masks::both` meets its contract. Assumes nothing.
-use Rattle.masks.specs.Laws.{bit_and_lem}
+use Rattle.masks.proofs.Laws.{bit_and_lem}
 use Rattle.masks.proofs.both.Goals as goal
 
 pub returns : goal.returns

@@ -1,5 +1,5 @@
 -- `masks::count` meets its contract. Assumes nothing.
-use Rattle.masks.specs.Count.{ones_sum}
+use Rattle.masks.proofs.Counting.{ones_sum}
 use Rattle.masks.proofs.count.Goals as goal
 
 pub returns : goal.returns

@@ -1,5 +1,5 @@
 -- `masks::either` meets its contract. Assumes nothing.
-use Rattle.masks.specs.Laws.{bit_or_lem}
+use Rattle.masks.proofs.Laws.{bit_or_lem}
 use Rattle.masks.proofs.either.Goals as goal
 
 pub returns : goal.returns

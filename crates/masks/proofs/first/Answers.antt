@@ -1,5 +1,5 @@
 -- `masks::first` meets its contract. Assumes nothing.
-use Rattle.masks.specs.Laws.{lowest_law}
+use Rattle.masks.proofs.Laws.{lowest_law}
 use Rattle.masks.proofs.first.Goals as goal
 
 pub returns : goal.returns

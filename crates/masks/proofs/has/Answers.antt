@@ -1,6 +1,6 @@
 -- `masks::has` meets its contract. Assumes nothing.
 use mathlib.Core.Path.{sym}
-use Rattle.masks.specs.Laws.{has_law, bit_high, off_has}
+use Rattle.masks.proofs.Laws.{has_law, bit_high, off_has}
 use Rattle.masks.proofs.has.Goals as goal
 
 pub returns-then-j-lt32 : goal.returns-then-j-lt32

@@ -1,5 +1,5 @@
 -- `masks::minus` meets its contract. Assumes nothing.
-use Rattle.masks.specs.Laws.{bit_minus}
+use Rattle.masks.proofs.Laws.{bit_minus}
 use Rattle.masks.proofs.minus.Goals as goal
 
 pub returns : goal.returns

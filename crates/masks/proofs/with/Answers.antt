@@ -1,5 +1,5 @@
 -- `masks::with` meets its contract. Assumes nothing.
-use Rattle.masks.specs.Laws.{with_law, with_none}
+use Rattle.masks.proofs.Laws.{with_law, with_none}
 use Rattle.masks.proofs.with.Goals as goal
 
 pub returns-then-j-lt32 : goal.returns-then-j-lt32

@@ -1,5 +1,5 @@
 -- `masks::without` meets its contract. Assumes nothing.
-use Rattle.masks.specs.Laws.{without_law, without_none}
+use Rattle.masks.proofs.Laws.{without_law, without_none}
 use Rattle.masks.proofs.without.Goals as goal
 
 pub returns-then-j-lt32 : goal.returns-then-j-lt32

@@ -2,7 +2,7 @@
 use Rattle.std.proofs.Common.{sym, ap, ◌∙◌}
 use Prim.Native.Nat.{ℕ}
 use Rattle.matches.specs.Paper.{answer, table_in, table_out, table_rows, table_match}
-use Rattle.matches.specs.Accepted.{table_ok}
+use Rattle.matches.proofs.Accepted.{table_ok}
 use Rattle.matching.specs.Answers.{answer_refused, answer_accepted, light_bounded}
 use Rattle.matching.specs.Queues.{sized}
 use Rattle.matching.proofs.table_match.Goals as goal

@@ -1,8 +1,8 @@
 -- `crosspoint::lists::counts_in` meets its contract. Assumes nothing.
 use Rattle.std.proofs.Common.{◌≡◌, refl, ◌∙◌, arith, rules}
 use lib.ListN.{length-set}
-use Rattle.crosspoint.specs.Copy.{front_one, front_all}
-use Rattle.crosspoint.specs.Copy.{holds_at}
+use Rattle.crosspoint.proofs.Copy.{front_one, front_all}
+use Rattle.crosspoint.proofs.Copy.{holds_at}
 use Rattle.crosspoint.proofs.lists.counts_in.Goals as goal
 
 pub loop-k-init : goal.loop-k-init

@@ -1,7 +1,7 @@
 -- `crosspoint::lists::numbers_in` meets its contract. Assumes nothing.
 use Rattle.std.proofs.Common.{◌≡◌, refl, ◌∙◌, arith, rules}
 use lib.ListN.{length-set}
-use Rattle.crosspoint.specs.Copy.{front_one, front_all}
+use Rattle.crosspoint.proofs.Copy.{front_one, front_all}
 use Rattle.crosspoint.proofs.lists.numbers_in.Goals as goal
 
 pub loop-k-init : goal.loop-k-init

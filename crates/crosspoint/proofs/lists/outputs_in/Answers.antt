@@ -1,10 +1,10 @@
 -- `crosspoint::lists::outputs_in` meets its contract. Assumes nothing.
 use Rattle.std.proofs.Common.{◌≡◌, refl, ◌∙◌, arith, rules}
 use lib.ListN.{length-set}
-use Rattle.crosspoint.specs.Copy.{front_one, front_all}
+use Rattle.crosspoint.proofs.Copy.{front_one, front_all}
 use mathlib.Core.List.{map}
 use Rattle.card.specs.Paper.{out}
-use Rattle.crosspoint.specs.Copy.{length_outs, out_of}
+use Rattle.crosspoint.proofs.Copy.{length_outs, out_of}
 use Rattle.crosspoint.proofs.lists.outputs_in.Goals as goal
 
 pub loop-k-init : goal.loop-k-init

@@ -1,7 +1,7 @@
 -- `crosspoint::lists::put_numbers` meets its contract. Assumes nothing.
 use Rattle.std.proofs.Common.{◌≡◌, refl, ◌∙◌, arith, rules}
 use lib.ListN.{length-set}
-use Rattle.crosspoint.specs.Copy.{copy_none, copy_one, copy_all}
+use Rattle.crosspoint.proofs.Copy.{copy_none, copy_one, copy_all}
 use Rattle.crosspoint.proofs.lists.put_numbers.Goals as goal
 
 pub loop-k-init : goal.loop-k-init

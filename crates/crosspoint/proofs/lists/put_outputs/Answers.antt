@@ -2,7 +2,7 @@
 use Rattle.std.proofs.Common.{◌≡◌, refl, ◌∙◌, arith, rules}
 use lib.ListN.{length-set}
 use Rattle.search.specs.First.{numbers, numbers_length}
-use Rattle.crosspoint.specs.Copy.{front_one, front_all, number_of_lem}
+use Rattle.crosspoint.proofs.Copy.{front_one, front_all, number_of_lem}
 use Rattle.crosspoint.proofs.lists.put_outputs.Goals as goal
 
 pub loop-k-init : goal.loop-k-init

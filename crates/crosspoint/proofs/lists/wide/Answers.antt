@@ -1,8 +1,8 @@
 -- `crosspoint::lists::wide` meets its contract. Assumes nothing.
 use Rattle.std.proofs.Common.{◌≡◌, refl, ◌∙◌, arith, rules}
 use lib.ListN.{length-set}
-use Rattle.crosspoint.specs.Copy.{front_one, front_all}
-use Rattle.crosspoint.specs.Copy.{number_of_lem}
+use Rattle.crosspoint.proofs.Copy.{front_one, front_all}
+use Rattle.crosspoint.proofs.Copy.{number_of_lem}
 use Rattle.search.specs.First.{numbers, numbers_length}
 use Rattle.crosspoint.proofs.lists.wide.Goals as goal
 

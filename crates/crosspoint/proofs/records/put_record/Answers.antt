@@ -1,6 +1,6 @@
 -- `crosspoint::records::put_record` meets its contract. Assumes nothing.
 use Rattle.std.proofs.Common.{rules}
-use Rattle.crosspoint.specs.Record.{record_put}
+use Rattle.crosspoint.proofs.Record.{record_put}
 use Rattle.crosspoint.proofs.records.put_record.Goals as goal
 
 pub returns : goal.returns

@@ -1,7 +1,7 @@
 -- `crosspoint::records::put_report` meets its contract. Assumes nothing.
 use Rattle.std.proofs.Common.{◌≡◌, rules}
 use lib.ListN.{length}
-use Rattle.crosspoint.specs.Record.{report_put}
+use Rattle.crosspoint.proofs.Record.{report_put}
 use Rattle.crosspoint.proofs.records.put_report.Goals as goal
 
 pub returns : goal.returns

@@ -1,7 +1,7 @@
 -- `search::choice::fix` meets its contract. Assumes nothing.
 use Rattle.std.proofs.Common.{arith, rules, ◌≡◌}
 use native.Mathlib.Numerals.{add-one}
-use Rattle.masks.specs.Count.{count_without}
+use Rattle.masks.proofs.Counting.{count_without}
 use Rattle.search.specs.First.{placing_begin, placing_lost, placing_won, fails_trial, keeps}
 use Rattle.search.proofs.choice.fix.Goals as goal
 

@@ -1,6 +1,6 @@
 -- `search::problem::spread` meets its contract.
 use Rattle.std.proofs.Common.{refl, arith}
-use Rattle.masks.specs.Count.{count_without}
+use Rattle.masks.proofs.Counting.{count_without}
 use Rattle.search.specs.ProblemSteps.{spread_turn, spread_done}
 use Rattle.search.proofs.problem.spread.Goals as goal
 

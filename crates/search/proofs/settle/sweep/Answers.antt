@@ -1,6 +1,6 @@
 -- `search::settle::sweep` meets its contract. Assumes nothing.
 use Rattle.std.proofs.Common.{arith, rules}
-use Rattle.masks.specs.Count.{count_without}
+use Rattle.masks.proofs.Counting.{count_without}
 use Rattle.search.specs.Settle.{pass_begin, pass_more, pass_end}
 use Rattle.search.proofs.settle.sweep.Goals as goal
 

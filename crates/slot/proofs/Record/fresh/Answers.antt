@@ -1,6 +1,6 @@
 -- `slot::Record::fresh` meets its contract. Assumes nothing.
 use Rattle.std.proofs.Common.{sym, ◌∙◌}
-use Rattle.slot.specs.Refused.{fresh_refused, fresh_made}
+use Rattle.slot.proofs.Refused.{fresh_refused, fresh_made}
 use Rattle.slot.proofs.Record.fresh.Goals as goal
 
 pub returns-then-number-ne0 : goal.returns-then-number-ne0

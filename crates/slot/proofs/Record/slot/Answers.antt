@@ -1,7 +1,7 @@
 -- `slot::Record::slot` meets its contract. Assumes nothing.
 use Rattle.std.proofs.Common.{sym, ◌∙◌, rules}
-use Rattle.slot.specs.Refused.{slot_refused, slot_accepted}
-use Rattle.slot.specs.Accepted.{fit}
+use Rattle.slot.proofs.Refused.{slot_refused, slot_accepted}
+use Rattle.slot.proofs.Accepted.{fit}
 use Rattle.slot.proofs.Record.slot.Goals as goal
 
 pub returns-then-number-ne0 : goal.returns-then-number-ne0

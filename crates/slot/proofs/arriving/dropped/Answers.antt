@@ -1,6 +1,6 @@
 -- `slot::arriving::dropped` meets its contract. Assumes nothing.
 use Rattle.std.proofs.Common.{rules}
-use Rattle.masks.specs.Laws.{with_above}
+use Rattle.masks.proofs.Laws.{with_above}
 use Rattle.slot.proofs.arriving.dropped.Goals as goal
 
 pub returns : goal.returns

@@ -1,7 +1,7 @@
 -- `slot::step::accepted` meets its contract. Assumes nothing.
 use Rattle.std.proofs.Common.{sym}
 use Rattle.card.specs.Limits.{are_ports}
-use Rattle.slot.specs.Accepted.{mid_ready, mid_partners, together}
+use Rattle.slot.proofs.Accepted.{mid_ready, mid_partners, together}
 use Rattle.slot.proofs.step.accepted.Goals as goal
 
 pub take_all-taken-requires : goal.take_all-taken-requires

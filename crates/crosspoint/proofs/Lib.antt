@@ -1,0 +1,6 @@
+pub mod Back
+pub mod Cards
+pub mod Copy
+pub mod Logs
+pub mod Record
+pub mod Outcomes

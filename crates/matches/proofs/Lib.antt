@@ -1,0 +1,17 @@
+pub mod Bench
+pub mod Certificate
+pub mod Computed
+pub mod Decide
+pub mod Demand3
+pub mod Flip
+pub mod Heaviest
+pub mod Ignored
+pub mod Lists
+pub mod Order
+pub mod Owner
+pub mod Ranks
+pub mod Rest
+pub mod Rotation
+pub mod Sides
+pub mod Table
+pub mod Accepted

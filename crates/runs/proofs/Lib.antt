@@ -1,0 +1,13 @@
+pub mod Arrived
+pub mod Counted
+pub mod Departed
+pub mod Kept
+pub mod Matches
+pub mod Order
+pub mod Run
+pub mod Stamps
+pub mod Start
+pub mod Sums
+pub mod Through
+pub mod Touched
+pub mod Turns
