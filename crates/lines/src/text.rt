@@ -59,6 +59,7 @@ pub fn sendings(line: Line, report: Report) -> Line
 }
 
 // What one input sent: nothing where its partner is none.
+#[tactic(auto, using(crate::specs::Parts::unmatched, crate::specs::Parts::matched))]
 fn sent(line: Line, input: In, output: Out, cell: u32, wait: u32) -> Line
     requires { line.len + 44 ≤ room }
     ensures { Adds line result (sent input.0 output.0 cell wait) 44 }

@@ -1,2 +1,2 @@
-// The mathematics of a match: definitions and theorems, all in specs/. There is no code here.
+// The mathematics of a match: definitions in specs/, theorems in proofs/. There is no code here.
 #![tactic(auto)]

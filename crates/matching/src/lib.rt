@@ -50,6 +50,7 @@ pub fn weighted_match(
 }
 
 // The table match: refusals 1, 2, 3.
+#[tactic(auto, using(crate::specs::Answers::light_bounded))]
 pub fn table_match(m: u32, n: u32, counts: &[u16], hold: u32) -> Answer
     ensures { answer_of result ≡ table_match m n counts.now hold }
 {

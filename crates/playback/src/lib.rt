@@ -27,7 +27,8 @@ pub fn replay<P: Print>(rt: &P, log: &[u8]) -> u32
     }
     let card = checked.card;
     let places = places(card);
-    if ROOM < places {
+    let larger = ROOM < places;
+    if larger {
         print(rt, lines::refusal_line(2, 0));
         return 2;
     }

@@ -1,2 +1,2 @@
-// The laws over any run of slots from a fresh card. Nothing to run: the statements are in specs/.
+// The laws over any run of slots from a fresh card. Nothing to run: the statements are in proofs/.
 #![tactic(auto)]

@@ -107,6 +107,7 @@ fn sweep(rows: [u32; 32], weights: [u32; 32], p: Pairing, asking: u32) -> Pairin
 }
 
 // Sweeps, until one leaves the same ones idle: each change makes the idle ones weigh less, so that sweep changed nothing.
+#[tactic(auto, using(crate::specs::Settle::come_end, crate::specs::Settle::come_less, crate::specs::Settle::come_more))]
 pub fn settle(rows: [u32; 32], weights: [u32; 32], p: Pairing, asking: u32) -> Pairing
     requires paired { Paired (wants rows) p }
     requires outside { Outside rows asking }

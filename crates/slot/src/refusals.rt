@@ -24,6 +24,7 @@ pub fn of_fresh(card: Card, cells: usize, stamps: usize) -> Verdict
 }
 
 // Refusals 7, 2, 3 and 4: of the slot.
+#[tactic(auto, unfolding(crate::specs::Paper::slot_refusal, crate::specs::Paper::well_formed))]
 pub fn of_slot(given: Record, hold: u32, arrivals: Arrivals, cells: usize, stamps: usize) -> Verdict
     ensures { number_of result ≡ slot_refusal given cells stamps hold arrivals }
 {

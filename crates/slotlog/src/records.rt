@@ -31,6 +31,7 @@ pub fn record_length(m: u32) -> usize
 }
 
 // Refusals 3 and 4 of one record.
+#[tactic(auto, unfolding(crate::specs::Paper::slot_refusal))]
 pub fn slot_refusal(m: u32, n: u32, slot: Slot) -> Verdict
     ensures { number_of result ≡ slot_refusal m n (slot_from slot) }
 {

@@ -2,8 +2,8 @@
 -- with one right side, so together they are `answer_of r ≡ answer_of s`; a lent list that a call may change stands in its promise, and is equal too.
 -- The functions that neither this file nor `Bits` names promise `r ≡ ..` itself: `masks::has` and `count`, those of `card`, `Queue::stands`, `queue_fits`,
 -- `wait`, `Record::empty`, `of`, `well_formed`, `waiting`, and `playback::replay`.
-use Rattle.std.specs.Prelude.{◌≡◌, List, ◌++◌, ℕ, ◌+◌, ◌-◌, ◌≤◌, ◌<◌, length, replicate}
-use Rattle.std.proofs.Common.{sym, ap, ap₂, ◌∙◌, arith, length-append, length-take, get_or-append-add, get_or-take}
+use Rattle.std.specs.Prelude.{◌≡◌, List, ◌++◌, ℕ, ◌+◌, ◌-◌, ◌<◌, length, replicate}
+use Rattle.std.proofs.Common.{sym, ap, ap₂, ◌∙◌, arith, length-append, get_or-append-add}
 use Rattle.std.proofs.lemmas.List.{length-replicate, get_or-replicate}
 use Rattle.std.proofs.Math.Seq.{take-append_seam}
 use Rattle.card.specs.declared.Verdict.{Verdict}
@@ -36,6 +36,7 @@ use Rattle.lines.specs.Text.{room, text_of}
 use Rattle.lines.specs.Lengths.{slot_most, last_most, refusal_most, len_is}
 use Rattle.crosspoint.specs.Paper.{Outcome}
 use Rattle.crosspoint.specs.Outcomes.{after}
+use Rattle.unique.proofs.Text.{Whole, SameText, text_unique}
 
 -- ---- search and matching
 
@@ -146,24 +147,6 @@ pub after_unique : {A : Type 0} (r s : ℕ) (lists lists' : A) → after r lists
 after_unique {A} r s lists lists' e = (ap (λ (o : Outcome A). o.answer) e, ap (λ (o : Outcome A). o.lists) e)
 
 -- ---- the exception: a line. Its text is promised, so two answers have one length and the same bytes before their end; what stands behind is left open
-
--- the array has its 1,536 bytes, as its type says
-abbrev pub Whole : Line → Type 0
-Whole l = length l.bytes ≡ room
-
-pub record SameText (r s : Line) : Type 0 where
-  pub len : r.len ≡ s.len
-  pub bytes : (k : ℕ) → k < r.len → at r.bytes k ≡ at s.bytes k
-
--- the three functions of `lines`, of a text that ends within the room
-pub text_unique : (r s : Line) → Whole r → Whole s → r.len ≤ room → s.len ≤ room → text_of r ≡ text_of s → SameText r s
-text_unique r s wr ws lr ls e = record { len = long; bytes = byte }
-  where
-    long : r.len ≡ s.len
-    long = omega (arith, wr, ws, sym (length-take r.len r.bytes) ∙ ap length e ∙ length-take s.len s.bytes)
-
-    byte : (k : ℕ) → k < r.len → at r.bytes k ≡ at s.bytes k
-    byte k l = sym (get_or-take r.len r.bytes k 0 l) ∙ ap (λ (t : List ℕ). at t k) e ∙ get_or-take s.len s.bytes k 0 (omega (arith, long))
 
 -- a text shorter than the room says how long it is
 line_unique : (text : List ℕ) → length text < room → (r s : Line) → Whole r → Whole s → text_of r ≡ text → text_of s ≡ text → SameText r s

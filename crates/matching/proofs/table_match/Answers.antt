@@ -3,7 +3,7 @@ use Rattle.std.proofs.Common.{sym, ap, ◌∙◌}
 use Prim.Native.Nat.{ℕ}
 use Rattle.matches.specs.Paper.{answer, table_in, table_out, table_rows, table_match}
 use Rattle.matches.proofs.Accepted.{table_ok}
-use Rattle.matching.specs.Answers.{answer_refused, answer_accepted, light_bounded}
+use Rattle.matching.specs.Answers.{answer_refused, answer_accepted}
 use Rattle.matching.specs.Queues.{sized}
 use Rattle.matching.proofs.table_match.Goals as goal
 
@@ -20,9 +20,6 @@ in_totals-inputs-requires c = sized (table_ok c.args.m c.args.n c.args.counts.no
 
 pub out_totals-outputs-requires : goal.out_totals-outputs-requires
 out_totals-outputs-requires c = sized (table_ok c.args.m c.args.n c.args.counts.now c.args.hold (sym c.of_table-verdict.ensures ∙ sym c.number.ensures ∙ c.if-number-ne0.false))
-
-pub answered-requires : goal.answered-requires
-answered-requires c = light_bounded _ _ _ c.in_totals-inputs.ensures.1 c.out_totals-outputs.ensures.1
 
 pub returns : goal.returns
 unfolding table_match
