@@ -1,4 +1,4 @@
--- The outcome of a call, refused or done, and the lists of each function as one value. Assumes nothing.
+-- The ways out of a call, refused or done, and what the tests of the lists say. Assumes nothing.
 use Rattle.std.specs.Prelude.{◌≡◌, refl, ◌≢◌, Bool, true, false, ℕ, zero, suc, eqb}
 use Rattle.std.proofs.Common.{eqb-true}
 use Rattle.masks.specs.Tests.{and_both}

@@ -17,7 +17,7 @@ use Rattle.matching.specs.Fill.{filled}
 
 -- ---- the list
 
--- M-as-N counts, of a card within its limits
+-- M·N counts, of a card within its limits
 pub record Sized (M N : ℕ) (counts : List ℕ) : Type 0 where
   pub sizes : Ports M N
   pub full : length counts ≡ M * N

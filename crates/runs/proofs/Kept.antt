@@ -113,7 +113,7 @@ after_keeps (c ∷ calls) s r =
     let rest = after_keeps calls (answer s c).state one.ready in
     record { ready = rest.ready; card = rest.card ∙ one.card }
 
--- ---- a well_formed_lem record stays well formed, whatever the call and whatever lists are lent
+-- ---- a well-formed record stays well formed, whatever the call and whatever lists are lent
 
 pub record Formed (r : Record) : Type 0 where
   pub formed : well_formed r ≡ true

@@ -43,7 +43,7 @@ module _ (f : State → ℕ) (g : Call → Stepped → ℕ) (o : Counts f g) whe
 pub adds_nothing : (s : State) (c : Call) → (answer s c).refusal ≢ 0 → Nothing s c (answer s c)
 adds_nothing s c = by_answer s c (λ x. x.refusal ≢ 0 → Nothing s c x) (λ _ d. absurd (d (agreed_zero s c))) (λ k d _. refused_nothing s c k d)
 
--- `Record::waiting` adds up the counts of all 1,024 queues: those from M-as-N on are 0, so that this is the sum of queue lengths
+-- `Record::waiting` adds up the counts of all 1,024 queues: those from M·N on are 0, so that this is the sum of queue lengths
 sum_rest : (m n : ℕ) (f : ℕ → ℕ) → m ≤ n → ((i : ℕ) → m ≤ i → i < n → f i ≡ 0) → sum n f ≡ sum m f
 unfolding sum
 sum_rest m zero f h z = ap (λ (k : ℕ). sum k f) (sym (le-zero h))

@@ -1,4 +1,4 @@
--- An accepted slot: what its steps are handed, and the four steps put together. Assumes nothing.
+-- An accepted slot: its four steps put together. Assumes nothing.
 use Rattle.std.specs.Prelude.{◌≡◌, ℕ, ◌*◌, List, length, take}
 use Rattle.std.proofs.Common.{sym, ap, le_refl}
 use Rattle.std.proofs.Math.Path.{subst}

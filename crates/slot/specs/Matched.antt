@@ -14,7 +14,7 @@ use Rattle.slot.specs.Stretch.{index_in}
 use Rattle.slot.specs.Ready.{Ready, used, used_small}
 use Rattle.slot.specs.Sending.{Sends, Partners}
 
--- the table of a card: the counts of its M-as-N queues
+-- the table of a card: the counts of its M·N queues
 abbrev pub table : State → List ℕ
 table s = take (used s) s.kept.counts
 

@@ -1,4 +1,4 @@
--- A card that a slot can work on: a well_formed_lem record and lists of its size. What a queue of it is, and what keeps it so. Assumes nothing.
+-- A card that a slot can work on: a well-formed record and lists of its size. What a queue of it is, and what keeps it so. Assumes nothing.
 use Rattle.std.specs.Prelude.{◌≡◌, ℕ, ◌+◌, ◌*◌, ◌<◌, ◌≤◌, true, ◌≢◌, ◌⊎◌, List, length, ◌==◌, nat_le, nat_lt, slice_set, refl}
 use Rattle.std.proofs.Common.{sym, ◌∙◌, mul-le-mul, mod-lt, arith, ltb-true, leb-true, eqb-true, lt-ltb, le-ltb, le-leb, eq-eqb}
 use Rattle.std.proofs.Math.Logic.{inl, inr}
