@@ -55,7 +55,7 @@ impl Line {
         let bytes = line.bytes;
         let end = line.end;
         if end <= ROOM {
-            streams::write_all(rt, &bytes[..end]);
+            let _ = rt.write_all(&bytes[..end]);
         }
     }
 

@@ -33,7 +33,7 @@ fn cases<P: Print>(rt: &P, bytes: &[u8]) {
     while at < bytes.len() {
         let size = case(rt, &bytes[at..]);
         if size == 0 {
-            streams::write_all(rt, b"?\n");
+            let _ = rt.write_all(b"?\n");
             return;
         }
         at += size;

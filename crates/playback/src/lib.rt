@@ -94,7 +94,7 @@ fn print<P: Print>(rt: &P, line: Line) {
     let bytes = line.bytes;
     let len = line.len;
     if len <= 1536 {
-        streams::write_all(rt, &bytes[..len]);
+        let _ = rt.write_all(&bytes[..len]);
     }
 }
 

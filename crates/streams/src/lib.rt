@@ -1,14 +1,15 @@
-// Bytes read and written whole, for the programs: what does not come ends a read, and what cannot be written is left out. Nothing is allocated.
+// A read that fills its room, for the programs. Nothing is allocated.
 #![tactic(auto)]
 
-ghost use Rattle.std.specs.Prelude.{◌≤◌, length};
+ghost use Rattle.std.specs.Prelude.{◌≤◌, length, take};
+ghost use Rattle.std.specs.Io.KnownBytes.{Consumes};
 
-use std::io;
-use std::io::{Print, Read, Write};
+use std::io::Read;
 
-// Reads until the room is full, the input ends or a read fails, and says how many bytes it put at the start of the room.
+// Reads until the room is full, the input ends or a read fails, and says how many bytes it put at the start of the room: the next ones of the reader.
 pub fn read_full<R: Read>(reader: &mut R, room: &mut [u8]) -> usize
-    ensures { result ≤ length room.new }
+    ensures inside { result ≤ length room.new }
+    ensures next { Consumes (R.remaining reader.old) (R.remaining reader.new) (take result room.new) }
 {
     let mut done = 0;
     while done < room.len() {
@@ -23,16 +24,11 @@ pub fn read_full<R: Read>(reader: &mut R, room: &mut [u8]) -> usize
 
 // One read: how many bytes came, and 0 where the input has ended or the read failed.
 fn read_some<R: Read>(reader: &mut R, room: &mut [u8]) -> usize
-    ensures { result ≤ length room.new }
+    ensures inside { result ≤ length room.new }
+    ensures next { Consumes (R.remaining reader.old) (R.remaining reader.new) (take result room.new) }
 {
     match reader.read(room) {
         Ok(came) => came,
         Err(_) => 0,
     }
-}
-
-// Writes these bytes, or as many as are taken.
-pub fn write_all<P: Print>(rt: &P, bytes: &[u8]) {
-    let mut to = io::writer(rt);
-    let _ = to.write_all(bytes);
 }

@@ -1,9 +1,13 @@
--- What was read is within the room. Each turn reads a byte or more.
-use Rattle.std.proofs.Common.{length, ◌-◌, ◌≤◌}
+-- What was read stands at the start of the room, and the reader has lost it and no more. Each turn reads a byte or more.
+use Rattle.std.proofs.Common.{length, take, ◌-◌, ◌≤◌}
+use Rattle.std.specs.Io.KnownBytes.{Consumes}
 use Rattle.streams.proofs.read_full.Given as goal
 
 abbrev pub invariant-loop-done : goal.invariant-loop-done
-invariant-loop-done g l = l.done ≤ length l.room
+invariant-loop-done g l = record {
+  inside : l.done ≤ length l.room;
+  next : Consumes (g.R.Read.remaining l.initial.reader) (g.R.Read.remaining l.reader) (take l.done l.room);
+}
 
 abbrev pub decreases-loop-done : goal.decreases-loop-done
 decreases-loop-done g l = length l.initial.room - l.done
