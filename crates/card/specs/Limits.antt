@@ -1,10 +1,10 @@
 -- What an accepted size says, and that it is accepted exactly then; and that no two refusals have one number. Assumes nothing.
-use Rattle.std.specs.Prelude.{◌≡◌, ℕ, ◌≤◌, true, List, [], ◌∷◌, get_or, slice_index_or, refl}
-use Rattle.std.proofs.Common.{sym, ap, ◌∙◌, leb-true, le-leb}
+use Rattle.std.specs.Prelude.{◌≡◌, ℕ, ◌≤◌, true, List, [], ◌∷◌, get_or, slice_index_or, refl, Result, Ok, Err}
+use Rattle.std.proofs.Common.{sym, ap, ◌∙◌, arith, leb-true, le-leb}
 use Rattle.masks.specs.Tests.{and_true, and_both}
-use Rattle.card.specs.declared.Verdict.{Verdict}
-use Rattle.card.specs.declared.Verdict.TheVariants.{Accepted, Size, Length, Hold, Arrival, Row, Weight, Record, Log, Back, Buffer, Slot}
-use Rattle.card.specs.Paper.{ports, depth, within, ports_fit, card_fits, number_of}
+use Rattle.card.specs.declared.Refusal.{Refusal}
+use Rattle.card.specs.declared.Refusal.TheVariants.{Size, Length, Hold, Arrival, Row, Weight, Record, Log, Back, Buffer, Slot}
+use Rattle.card.specs.Paper.{ports, depth, within, ports_fit, card_fits, refusal_number, number_of}
 
 pub record Within (most x : ℕ) : Type 0 where
   pub low : 1 ≤ x
@@ -40,13 +40,12 @@ pub are_sizes : (m n d : ℕ) → Sizes m n d → card_fits m n d ≡ true
 unfolding card_fits
 are_sizes m n d h = and_true (are_ports m n h.ports) (is_within depth d h.deep)
 
--- the verdicts by number
-verdicts : List Verdict
-verdicts = Accepted ∷ Size ∷ Length ∷ Hold ∷ Arrival ∷ Row ∷ Weight ∷ Record ∷ Log ∷ Back ∷ Buffer ∷ Slot ∷ []
+-- the refusals by number; the first entry stands for none
+refusals : List Refusal
+refusals = Size ∷ Size ∷ Length ∷ Hold ∷ Arrival ∷ Row ∷ Weight ∷ Record ∷ Log ∷ Back ∷ Buffer ∷ Slot ∷ []
 
-listed : (v : Verdict) → slice_index_or verdicts (number_of v) Accepted ≡ v
-unfolding verdicts
-listed Accepted = refl
+listed : (r : Refusal) → slice_index_or refusals (refusal_number r) Size ≡ r
+unfolding refusals
 listed Size = refl
 listed Length = refl
 listed Hold = refl
@@ -59,6 +58,32 @@ listed Back = refl
 listed Buffer = refl
 listed Slot = refl
 
--- no two verdicts have one number
-pub verdict_unique : (v w : Verdict) → number_of v ≡ number_of w → v ≡ w
-verdict_unique v w e = sym (listed v) ∙ ap (λ (n : ℕ). get_or verdicts n Accepted) e ∙ listed w
+-- no two refusals have one number
+pub refusal_unique : (r s : Refusal) → refusal_number r ≡ refusal_number s → r ≡ s
+refusal_unique r s e = sym (listed r) ∙ ap (λ (n : ℕ). get_or refusals n Size) e ∙ listed s
+
+-- none of them is 0
+pub refused : (r : Refusal) → refusal_number r ≡ 0 → ⊥
+refused Size e = absurd (omega (arith, e))
+refused Length e = absurd (omega (arith, e))
+refused Hold e = absurd (omega (arith, e))
+refused Arrival e = absurd (omega (arith, e))
+refused Row e = absurd (omega (arith, e))
+refused Weight e = absurd (omega (arith, e))
+refused Record e = absurd (omega (arith, e))
+refused Log e = absurd (omega (arith, e))
+refused Back e = absurd (omega (arith, e))
+refused Buffer e = absurd (omega (arith, e))
+refused Slot e = absurd (omega (arith, e))
+
+-- answers with one number are both accepted, or refused alike
+pub answers_alike : {T : Type 0} (P : Result T Refusal → Result T Refusal → Type 0) → ((x y : T) → P (Ok x) (Ok y)) → ((r : Refusal) → P (Err r) (Err r))
+    → (a b : Result T Refusal) → number_of a ≡ number_of b → P a b
+answers_alike P both same (Ok x) (Ok y) e = both x y
+answers_alike P both same (Ok x) (Err s) e = absurd (refused s (sym e))
+answers_alike P both same (Err r) (Ok y) e = absurd (refused r e)
+answers_alike P both same (Err r) (Err s) e = rw (sym (refusal_unique r s e)) (same r)
+
+-- so an answer without a value is known by its number
+pub verdict_unique : (v w : Result (Unit {0}) Refusal) → number_of v ≡ number_of w → v ≡ w
+verdict_unique v w e = answers_alike (λ (a b : Result (Unit {0}) Refusal). a ≡ b) (λ x y. refl) (λ r. refl) v w e

@@ -1,13 +1,13 @@
 -- Document 01, "The card", and the tests of "What is said no to" that matching, slot and log share. This file is what a reader must believe.
 -- Assumes nothing. `leb`, `ltb` and `eqb` are the tests ≤, < and = on numbers.
-use Rattle.std.specs.Prelude.{ℕ, ◌+◌, ◌*◌, ◌%◌, ◌^◌, Bool, true, false, cond, not, ◌&&◌, ◌||◌, replicate, ◌==◌, nat_le, nat_lt, slice_index, slice_index_or}
+use Rattle.std.specs.Prelude.{ℕ, ◌+◌, ◌*◌, ◌%◌, ◌^◌, Bool, true, false, cond, not, ◌&&◌, ◌||◌, replicate, ◌==◌, nat_le, nat_lt, slice_index, slice_index_or, Result, Ok, Err}
 use Rattle.masks.specs.Paper.{has, every}
 use Rattle.card.specs.declared.Card.{Card}
 use Rattle.card.specs.declared.Counters.{Counters}
 use Rattle.card.specs.declared.Out.{Out}
 use Rattle.card.specs.declared.Arrivals.{Arrivals}
-use Rattle.card.specs.declared.Verdict.{Verdict}
-use Rattle.card.specs.declared.Verdict.TheVariants.{Accepted, Size, Length, Hold, Arrival, Row, Weight, Record, Log, Back, Buffer, Slot}
+use Rattle.card.specs.declared.Refusal.{Refusal}
+use Rattle.card.specs.declared.Refusal.TheVariants.{Size, Length, Hold, Arrival, Row, Weight, Record, Log, Back, Buffer, Slot}
 
 -- THE LIMITS
 
@@ -88,17 +88,21 @@ fits_at m n a i = arrival_fits m n i (output_at a i) (cell_at a i)
 unfoldable pub arrivals_fit : ℕ → ℕ → Arrivals → Bool
 arrivals_fit m n a = every ports (fits_at m n a)
 
--- Document 01's number of each refusal; 0: accepted
-abbrev pub number_of : Verdict → ℕ
-number_of Accepted = 0
-number_of Size = 1
-number_of Length = 2
-number_of Hold = 3
-number_of Arrival = 4
-number_of Row = 5
-number_of Weight = 6
-number_of Record = 7
-number_of Log = 8
-number_of Back = 9
-number_of Buffer = 10
-number_of Slot = 11
+-- Document 01's number of each refusal
+abbrev pub refusal_number : Refusal → ℕ
+refusal_number Size = 1
+refusal_number Length = 2
+refusal_number Hold = 3
+refusal_number Arrival = 4
+refusal_number Row = 5
+refusal_number Weight = 6
+refusal_number Record = 7
+refusal_number Log = 8
+refusal_number Back = 9
+refusal_number Buffer = 10
+refusal_number Slot = 11
+
+-- the number of what a call answers; 0: accepted
+abbrev pub number_of : {T : Type 0} → Result T Refusal → ℕ
+number_of (Ok x) = 0
+number_of (Err r) = refusal_number r

@@ -2,8 +2,8 @@
 // slot and log share.
 #![tactic(auto)]
 
-ghost use Rattle.std.specs.Prelude.{◌≡◌, ◌&&◌};
-ghost use Rattle.card.specs.Paper.{within, ports_fit, card_fits, names_below, arrival_fits, arrivals_fit, no_arrivals, number_of, index, one_stored, one_dropped, one_departed};
+ghost use Rattle.std.specs.Prelude.{◌≡◌};
+ghost use Rattle.card.specs.Paper.{within, ports_fit, card_fits, names_below, arrival_fits, arrivals_fit, no_arrivals, refusal_number, number_of, index, one_stored, one_dropped, one_departed};
 
 // M inputs, N outputs, and D cells in each queue.
 #[derive(Clone, Copy)]
@@ -17,11 +17,12 @@ pub struct Card {
 #[derive(Clone, Copy)]
 pub struct In(pub u16);
 
-// An output number, or none.
+// An output number, or none: 65535, as C and the log say it. A caller may hand in any number here, which an Option would not take.
 #[derive(Clone, Copy)]
 pub struct Out(pub u16);
 
-// What arrives in one slot: for each input an output and a cell, none with 0 where nothing arrives.
+// What arrives in one slot: for each input an output and a cell, none with 0 where nothing arrives. Two lists, as C lends them and the log's writer does;
+// any output stands in them, since refusal 4 must see it.
 #[derive(Clone, Copy)]
 pub struct Arrivals {
     pub outputs: [Out; 32],
@@ -37,10 +38,9 @@ pub struct Counters {
     pub departed: u32,
 }
 
-// What a call says of its arguments: accepted, or the refusal that document 01 numbers 1 to 11, in its order.
-#[derive(Clone, Copy)]
-pub enum Verdict {
-    Accepted,
+// Why a call is refused: what document 01 numbers 1 to 11, in its order.
+#[derive(Clone, Copy, Debug, PartialEq, Eq)]
+pub enum Refusal {
     Size,
     Length,
     Hold,
@@ -65,10 +65,11 @@ impl Card {
     pub const NONE: u16 = 65535;
 
     // Whether M, N and D are within their limits: refusal 1 where D is asked.
+    #[tactic(auto, unfolding(crate::specs::Paper::card_fits))]
     pub fn fits(self) -> bool
         ensures { result ≡ card_fits self.m self.n self.d }
     {
-        also(ports_fit(self.m, self.n), within(Card::DEPTH, self.d))
+        ports_fit(self.m, self.n) && within(Card::DEPTH, self.d)
     }
 
     // Queue (i, j) has index i·N + j.
@@ -79,16 +80,16 @@ impl Card {
     }
 }
 
+// One method for each way in which document 01 counts: each has its definition in specs/Paper.
 impl Counters {
     // One arrival more, and stored.
     pub fn one_stored(self) -> Counters
         ensures { result ≡ one_stored self }
     {
         Counters {
-            offered: std::num::wrapping_add_u32(self.offered, 1),
-            stored: std::num::wrapping_add_u32(self.stored, 1),
-            dropped: self.dropped,
-            departed: self.departed,
+            offered: self.offered.wrapping_add(1),
+            stored: self.stored.wrapping_add(1),
+            ..self
         }
     }
 
@@ -97,10 +98,9 @@ impl Counters {
         ensures { result ≡ one_dropped self }
     {
         Counters {
-            offered: std::num::wrapping_add_u32(self.offered, 1),
-            stored: self.stored,
-            dropped: std::num::wrapping_add_u32(self.dropped, 1),
-            departed: self.departed,
+            offered: self.offered.wrapping_add(1),
+            dropped: self.dropped.wrapping_add(1),
+            ..self
         }
     }
 
@@ -109,19 +109,18 @@ impl Counters {
         ensures { result ≡ one_departed self }
     {
         Counters {
-            offered: self.offered,
-            stored: self.stored,
-            dropped: self.dropped,
-            departed: std::num::wrapping_add_u32(self.departed, 1),
+            departed: self.departed.wrapping_add(1),
+            ..self
         }
     }
 }
 
 // Whether M and N are within their limits: refusal 1 where D is not asked.
+#[tactic(auto, unfolding(crate::specs::Paper::ports_fit))]
 pub fn ports_fit(m: u32, n: u32) -> bool
     ensures { result ≡ ports_fit m n }
 {
-    also(within(Card::PORTS, m), within(Card::PORTS, n))
+    within(Card::PORTS, m) && within(Card::PORTS, n)
 }
 
 // Whether a mask names ports below n alone: refusal 3 of a hold, refusal 5 of a row.
@@ -154,17 +153,17 @@ impl Arrivals {
     }
 
     // Whether each input's arrival fits: refusal 4.
-    pub fn fit(self, m: u32, n: u32) -> bool
-        ensures { result ≡ arrivals_fit m n self }
+    pub fn fit(&self, m: u32, n: u32) -> bool
+        ensures { result ≡ arrivals_fit m n self.now }
     {
-        let outputs = self.outputs;
-        let cells = self.cells;
-        let mut ok = true;
-        for i in 0..32u16 {
-            let k = i as usize;
-            ok = also(ok, arrival_fits(m, n, In(i), outputs[k], cells[k]));
-        }
-        ok
+        let arrivals = self.outputs.iter().zip(self.cells.iter());
+        (0..32u16).zip(arrivals).all(|(i, (output, cell))| arrival_fits(
+            m,
+            n,
+            In(i),
+            *output,
+            *cell,
+        ))
     }
 }
 
@@ -172,34 +171,36 @@ impl Arrivals {
 fn within(most: u32, x: u32) -> bool
     ensures { result ≡ within most x }
 {
-    1 <= x && x <= most
+    (1..=most).contains(&x)
 }
 
-// Both tests. As a call it leaves no branch behind, so that a loop's promise stays one equation.
-pub fn also(a: bool, b: bool) -> bool
-    ensures { result ≡ (a && b) }
-{
-    a && b
-}
+// Document 01's number.
+impl From<Refusal> for u32 {
+    ghost from_gives = { λ refusal number. number ≡ refusal_number refusal };
 
-impl Verdict {
-    // Document 01's number; 0 where accepted.
-    pub fn number(self) -> u32
-        ensures { result ≡ number_of self }
-    {
-        match self {
-            Verdict::Accepted => 0,
-            Verdict::Size => 1,
-            Verdict::Length => 2,
-            Verdict::Hold => 3,
-            Verdict::Arrival => 4,
-            Verdict::Row => 5,
-            Verdict::Weight => 6,
-            Verdict::Record => 7,
-            Verdict::Log => 8,
-            Verdict::Back => 9,
-            Verdict::Buffer => 10,
-            Verdict::Slot => 11,
+    fn from(refusal: Refusal) -> u32 {
+        match refusal {
+            Refusal::Size => 1,
+            Refusal::Length => 2,
+            Refusal::Hold => 3,
+            Refusal::Arrival => 4,
+            Refusal::Row => 5,
+            Refusal::Weight => 6,
+            Refusal::Record => 7,
+            Refusal::Log => 8,
+            Refusal::Back => 9,
+            Refusal::Buffer => 10,
+            Refusal::Slot => 11,
         }
+    }
+}
+
+// The number of what a call answers: its refusal's, and 0 where it is accepted.
+pub fn number<T>(outcome: &Result<T, Refusal>) -> u32
+    ensures { result ≡ number_of outcome.now }
+{
+    match outcome {
+        Ok(_) => 0,
+        Err(refusal) => u32::from(*refusal),
     }
 }

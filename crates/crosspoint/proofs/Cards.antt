@@ -1,14 +1,14 @@
 -- Fresh card and slot on lists: what is refused leaves the card's two lists as they were, and what is done is document 01's step. Assumes nothing.
 use Rattle.std.specs.Prelude.{◌≡◌, refl, ◌≢◌, true, false, ℕ, zero, suc, length, eqb}
-use Rattle.std.proofs.Common.{sym, ◌∙◌, arith}
+use Rattle.std.proofs.Common.{sym, ◌∙◌}
 use Rattle.std.proofs.Math.Path.{ap, ap₂}
 use mathlib.Core.List.{List}
 use Rattle.card.specs.declared.Card.{Card}
 use Rattle.card.specs.declared.Arrivals.{Arrivals}
 use Rattle.slot.specs.Paper as steps
 use Rattle.slot.specs.Paper.{State, Made, Stepped, fresh_refusal, made, fresh, slot_refusal, stepped, slot}
-use Rattle.crosspoint.specs.Paper.{Outcome, outcome, Slotted, record_long, lent_of, fresh_lists, record_list, record_in, record_holds, report_list, arrivals_in, slot_long, slot_lists}
-use Rattle.crosspoint.specs.Outcomes.{after, lent, slotted, Gave, gave}
+use Rattle.crosspoint.specs.Paper.{outcome, record_long, lent_of, fresh_lists, record_list, record_in, record_holds, report_list, arrivals_in, slot_long, slot_lists}
+use Rattle.crosspoint.specs.Outcomes.{after, lent, slotted}
 use Rattle.crosspoint.proofs.Outcomes.{refused, accepted, passed}
 
 -- ---- a refused call leaves the lists
@@ -50,19 +50,6 @@ module _ (c : Card) (kept cells stamps : List ℕ) (f : Made) (e : f ≡ fresh c
 
 -- ---- the slot
 
--- what a slot gives back, beside the two lists as it left them
-beside : List ℕ → List ℕ → Outcome Gave → Outcome Slotted
-beside cells stamps o = after o.answer (slotted o.lists.kept cells stamps o.lists.report)
-
--- where it is refused the two lists are as they were
-given_beside : (r : ℕ) (kept report now said cells stamps was-cells was-stamps : List ℕ) → (r ≢ 0 → (cells ≡ was-cells) × (stamps ≡ was-stamps))
-    → beside cells stamps (outcome r (gave now said) (gave kept report)) ≡ outcome r (slotted now cells stamps said) (slotted kept was-cells was-stamps report)
-unfolding outcome beside
-given_beside zero kept report now said cells stamps was-cells was-stamps h = refl
-given_beside (suc r) kept report now said cells stamps was-cells was-stamps h =
-    let e = h (λ z. absurd (omega arith)) in
-    ap₂ (λ (x y : List ℕ). after (suc r) (slotted kept x y report)) e.0 e.1
-
 module _ (hold : ℕ) (outputs arriving kept cells stamps report : List ℕ) (s : Stepped)
     (e : s ≡ slot (record { kept = record_in kept; cells = cells; stamps = stamps }) hold (arrivals_in outputs arriving))
     (l : slot_long (length kept) (length outputs) (length arriving) (length report) ≡ true) (h : record_holds kept ≡ true) where
@@ -74,20 +61,16 @@ module _ (hold : ℕ) (outputs arriving kept cells stamps report : List ℕ) (s 
       ∙ passed _ 7 _ _ _ h
       ∙ passed _ 2 _ _ _ l
 
-  stays : s.refusal ≢ 0 → (s.state.cells ≡ cells) × (s.state.stamps ≡ stamps)
-  stays d =
-      let z = ap (λ (x : Stepped). x.state) e ∙ slot_kept _ hold (arrivals_in outputs arriving) (λ n. d (ap (λ (x : Stepped). x.refusal) e ∙ n)) in
-      (ap (λ (x : State). x.cells) z, ap (λ (x : State). x.stamps) z)
+  -- where it is refused the two lists are as they were
+  pub slot_refused : (k : ℕ) → k ≡ s.refusal → k ≢ 0 → after k (slotted kept s.state.cells s.state.stamps report) ≡ slot_lists hold outputs arriving (slotted kept cells stamps report)
+  slot_refused k q d =
+      let z = ap (λ (x : Stepped). x.state) e ∙ slot_kept _ hold (arrivals_in outputs arriving) (λ n. d (q ∙ ap (λ (x : Stepped). x.refusal) e ∙ n)) in
+      ap (λ (x : State). after k (slotted kept x.cells x.stamps report)) z ∙ refused k _ _ _ q d ∙ through
 
-  -- the record and the report as they were given back, beside the two lists as the slot left them
-  pub slot_given : (k : ℕ) (now said : List ℕ)
-      → after k (gave now said) ≡ outcome s.refusal (gave (record_list s.state.kept) (report_list s.report)) (gave kept report)
-      → after k (slotted now s.state.cells s.state.stamps said) ≡ slot_lists hold outputs arriving (slotted kept cells stamps report)
-  unfolding beside
-  slot_given k now said q =
-      ap (beside s.state.cells s.state.stamps) q
-      ∙ given_beside s.refusal kept report _ _ s.state.cells s.state.stamps cells stamps stays
-      ∙ through
+  pub slot_done : (now said : List ℕ) → s.refusal ≡ 0 → now ≡ record_list s.state.kept → said ≡ report_list s.report
+      → after 0 (slotted now s.state.cells s.state.stamps said) ≡ slot_lists hold outputs arriving (slotted kept cells stamps report)
+  slot_done now said z f g =
+      accepted _ _ _ _ z (ap₂ (λ (x y : List ℕ). slotted x s.state.cells s.state.stamps y) f g) ∙ through
 
 -- where the record's list has a number that no field can hold
 pub slot_unheld : (hold : ℕ) (outputs arriving kept cells stamps report : List ℕ) → slot_long (length kept) (length outputs) (length arriving) (length report) ≡ true → record_holds kept ≡ false

@@ -1,8 +1,10 @@
 -- The ways out of a call, refused or done, and what the tests of the lists say. Assumes nothing.
-use Rattle.std.specs.Prelude.{◌≡◌, refl, ◌≢◌, Bool, true, false, ℕ, zero, suc, eqb}
-use Rattle.std.proofs.Common.{eqb-true}
+use Rattle.std.specs.Prelude.{◌≡◌, refl, ◌≢◌, Bool, true, false, ◌&&◌, ℕ, zero, suc, eqb}
+use Rattle.std.proofs.Common.{ap, arith, eqb-true}
 use Rattle.masks.specs.Tests.{and_both}
-use Rattle.card.specs.Paper.{unless}
+use Rattle.card.specs.Limits as Limits
+use Rattle.card.specs.Paper.{unless, refusal_number}
+use Rattle.card.specs.declared.Refusal.{Refusal}
 use Rattle.crosspoint.specs.Paper.{outcome, record_long, report_long, answer_long, weights_long, slot_long, read_long}
 use Rattle.crosspoint.specs.Outcomes.{after}
 
@@ -19,14 +21,29 @@ pub accepted : {A : Type 0} (q : ℕ) (now done was : A) → q ≡ 0 → now ≡
 unfolding outcome
 accepted q now done was e f = rw (e, f)
 
--- a list of fixed length has another: refusal 2, before all else
-pub short : {A : Type 0} (test : Bool) (next : ℕ) (done was : A) → test ≡ false → after 2 was ≡ outcome (unless test 2 next) done was
-unfolding outcome
-short test next done was e = rw e
-
 -- each has its length: what comes after that test decides
 pub passed : {A : Type 0} (test : Bool) (k next : ℕ) (done was : A) → test ≡ true → outcome next done was ≡ outcome (unless test k next) done was
 passed test k next done was e = rw e
+
+-- ---- a test of lengths, as it answers
+
+pub long_passed : (test : Bool) → 0 ≡ unless test 2 0 → test ≡ true
+long_passed true e = refl
+long_passed false e = absurd (omega (arith, e))
+
+-- refused before all else
+pub long_refused : {A : Type 0} (test : Bool) (r : Refusal) (next : ℕ) (done was : A) → refusal_number r ≡ unless test 2 0 → after (refusal_number r) was ≡ outcome (unless test 2 next) done was
+unfolding outcome
+long_refused true r next done was e = absurd (Limits.refused r e)
+long_refused false r next done was e = ap (λ n. after n was) e
+
+-- the first of two tests, and the second
+pub first_long : (a b : Bool) (r : Refusal) → refusal_number r ≡ unless a 2 0 → refusal_number r ≡ unless (a && b) 2 0
+first_long true b r e = absurd (Limits.refused r e)
+first_long false b r e = e
+
+pub second_long : (a b : Bool) {n : ℕ} → a ≡ true → n ≡ unless b 2 0 → n ≡ unless (a && b) 2 0
+second_long a b h e = rw h e
 
 -- ---- lengths that a test has found right
 

@@ -1,9 +1,9 @@
 -- The outcome of a call, refused or done, and the lists of each function as one value. Assumes nothing.
-use Rattle.std.specs.Prelude.{List, ℕ}
-use Rattle.card.specs.Paper.{number_of}
-use Rattle.slot.specs.declared.Stepped.{Stepped}
-use Rattle.slot.specs.Answers.{report_of}
-use Rattle.crosspoint.specs.Paper.{Outcome, outcome, record_list, report_list, Matched, Weights, Lent, Slotted, ReadLists}
+use Rattle.std.specs.Prelude.{List, ℕ, Result, Ok, Err}
+use Rattle.card.specs.Paper.{refusal_number}
+use Rattle.card.specs.declared.Refusal.{Refusal}
+use Rattle.slotlog.specs.declared.Fault.{Fault}
+use Rattle.crosspoint.specs.Paper.{Outcome, halves, Matched, Weights, Lent, Slotted, ReadLists}
 
 -- ---- the lists of each function, as its contract names them
 
@@ -25,13 +25,14 @@ slotted kept cells stamps report = record { lent = lent kept cells stamps; repor
 abbrev pub read_into : (hold outputs cells : List ℕ) → ReadLists
 read_into hold outputs cells = record { hold = hold; outputs = outputs; cells = cells }
 
--- what an accepted slot gives back beside the card's two lists
-pub record Gave : Type 0 where
-  pub kept : List ℕ
-  pub report : List ℕ
+-- ---- two answers as C has them
 
-abbrev pub gave : (kept report : List ℕ) → Gave
-gave kept report = record { kept = kept; report = report }
+-- "refusal in the low half, record number in the high half"
+abbrev pub checked_number : {T : Type 0} → Result T Fault → ℕ
+checked_number (Ok x) = 0
+checked_number (Err f) = halves (refusal_number f.refusal) f.«record»
 
-abbrev pub given_slot : Stepped → (kept report : List ℕ) → Outcome Gave
-given_slot done kept report = outcome (number_of done.verdict) (gave (record_list done.record) (report_list (report_of done.report))) (gave kept report)
+-- "refusal in the low half, length written in the high half"
+abbrev pub written_number : Result ℕ Refusal → ℕ
+written_number (Ok n) = halves 0 n
+written_number (Err r) = halves (refusal_number r) 0

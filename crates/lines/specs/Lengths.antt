@@ -1,6 +1,6 @@
 -- How long a line can be: at most 1,454 bytes, so a line's text says how long it is. Assumes nothing.
-use Rattle.std.specs.Prelude.{◌≡◌, Bool, true, false, cond, List, [], ℕ, zero, suc, ◌*◌, ◌/◌, ◌≤◌, ◌<◌, length, ltb, eqb}
-use Rattle.std.proofs.Common.{ap, sym, ◌∙◌, arith, length-append, length-take}
+use Rattle.std.specs.Prelude.{◌≡◌, Bool, true, false, cond, List, [], ℕ, zero, suc, ◌*◌, ◌/◌, ◌≤◌, length, ltb, eqb}
+use Rattle.std.proofs.Common.{ap, arith, length-append}
 use Rattle.card.specs.declared.Counters.{Counters}
 use Rattle.card.specs.Paper.{ports, none}
 use Rattle.matches.specs.Paper.{at, partner}
@@ -8,7 +8,7 @@ use Rattle.slot.specs.Paper.{Report}
 use Rattle.lines.specs.declared.Line.{Line}
 use Rattle.lines.specs.Paper.{digits, sending, sendings, slot_line, last_line, refusal_line}
 use Rattle.lines.specs.Parts.{sent}
-use Rattle.lines.specs.Text.{room, text_of}
+use Rattle.lines.specs.Text.{text_of, len_of}
 
 -- of two lists each is short enough
 either : (b : Bool) (s t : List ℕ) (most : ℕ) → length s ≤ most → length t ≤ most → length (cond b s t) ≤ most
@@ -46,6 +46,6 @@ pub refusal_most : (refusal number : ℕ) → length (refusal_line refusal numbe
 unfolding refusal_line
 refusal_most refusal number = simp length-append (omega (arith, digits_most 10 refusal, digits_most 10 number))
 
--- what a caller that lends the first `len` bytes asks for
-pub len_is : (l : Line) (text : List ℕ) → length l.bytes ≡ room → text_of l ≡ text → length text < room → l.len ≡ length text
-len_is l text full e h = omega (arith, full, h, sym (length-take l.len l.bytes) ∙ ap length e)
+-- a line has as many bytes as its text
+pub len_is : (l : Line) (text : List ℕ) → text_of l ≡ text → len_of l ≡ length text
+len_is l text e = ap length e

@@ -1,39 +1,35 @@
 -- The parts of a line, each as a law about its definition: a number's digits, and what an input sent. Assumes nothing.
-use Rattle.std.specs.Prelude.{◌≡◌, cond, List, [], ◌∷◌, ◌++◌, ℕ, suc, ◌+◌, ◌-◌, ◌*◌, ◌/◌, ◌%◌, ◌≤◌, ◌<◌, eqb}
-use Rattle.std.proofs.Common.{◌∙◌, add-one, arith, lt-ltb, le-ltb, eq-eqb, ne_eqb}
+use Rattle.std.specs.Prelude.{◌≡◌, cond, List, [], ◌∷◌, ◌++◌, ℕ, suc, ◌+◌, ◌*◌, ◌/◌, ◌%◌, ◌^◌, ◌≤◌, ◌<◌, length, eqb}
+use Rattle.std.specs.Fmt as fmt
+use Rattle.std.proofs.Common.{sym, ◌∙◌, add-one, arith, lt-ltb, le-ltb, eq-eqb, ne_eqb}
+use Rattle.std.proofs.lemmas.Fmt.{decimal_from_appends, length-decimal-le}
 use Rattle.card.specs.Paper.{none}
 use Rattle.matches.specs.Paper.{at, partner}
 use Rattle.slot.specs.Paper.{Report}
 use Rattle.lines.specs.declared.Line.{Line}
-use Rattle.lines.specs.Paper.{digits, sending, sendings}
-use Rattle.lines.specs.Text.{Adds, same, then}
+use Rattle.lines.specs.Paper.{digits, decimal, sending, sendings}
+use Rattle.lines.specs.Text.{text_of, Adds, same, adds, then}
 
 -- ---- a number's digits
 
-pub no_digit : (l : Line) (most x : ℕ) → most ≡ 0 → Adds l l (digits most x) most
+one_digit : (most x : ℕ) → x < 10 → digits (suc most) x ≡ (48 + x) ∷ []
 unfolding digits
-no_digit l most x e = rw e (same l 0)
+one_digit most x h = rw (lt-ltb x 10 h)
 
-digits_one : (most n x : ℕ) → most ≡ suc n → x < 10 → digits most x ≡ (48 + x) ∷ []
+more_digits : (most x : ℕ) → 10 ≤ x → digits (suc most) x ≡ digits most (x / 10) ++ (48 + x % 10) ∷ []
 unfolding digits
-digits_one most n x e h = rw (e, lt-ltb x 10 h)
+more_digits most x h = rw (le-ltb x 10 h)
 
-digits_more : (most n x : ℕ) → most ≡ suc n → 10 ≤ x → digits most x ≡ digits n (x / 10) ++ (48 + x % 10) ∷ []
-unfolding digits
-digits_more most n x e h = rw (e, le-ltb x 10 h)
+-- the library's decimal of a number of 32 bits
+pub decimal_is : (x : ℕ) → x < 2 ^ 32 → fmt.decimal x ≡ decimal x
+decimal_is x h =
+    let short : length (fmt.decimal x) ≤ 10 = length-decimal-le 10 x (omega arith) (omega arith) (omega arith) in
+    sym (decimal_from_appends digits (record { one = one_digit; more = more_digits }) 10 x (omega arith) short)
 
-module _ {l r : Line} (most x byte : ℕ) (some : 1 ≤ most) where
-  pub one_digit : x < 10 → byte ≡ 48 + x → Adds l r (byte ∷ []) 1 → Adds l r (digits most x) most
-  one_digit h e a =
-      let s : most ≡ suc (most - 1) = omega arith in
-      record { says = a.says ∙ rw (digits_one most (most - 1) x s h, e); fits = omega (arith, a.fits) }
-
-  pub more_digits : {f : Line} → 10 ≤ x → byte ≡ 48 + x % 10 → Adds l f (digits (most - 1) (x / 10)) (most - 1) → Adds f r (byte ∷ []) 1
-      → Adds l r (digits most x) most
-  more_digits h e a b =
-      let s : most ≡ suc (most - 1) = omega arith in
-      let t = then a b in
-      record { says = t.says ∙ rw (digits_more most (most - 1) x s h, e); fits = omega (arith, t.fits) }
+pub digits_add : (l r : Line) (x : ℕ) → text_of r ≡ text_of l ++ fmt.decimal x → x < 2 ^ 32 → Adds l r (decimal x) 10
+digits_add l r x e h =
+    let short : length (fmt.decimal x) ≤ 10 = length-decimal-le 10 x (omega arith) (omega arith) (omega arith) in
+    rw (sym (decimal_is x h)) (adds l r _ 10 e short)
 
 -- ---- what the inputs sent
 

@@ -1,3 +1,4 @@
 pub mod Paper
 pub mod Tests
 pub mod Sum
+pub mod Ports

@@ -42,11 +42,17 @@ unfolding side_fits
 side_law asking b w h = every_cong ports _ _ (λ i l. ap (λ (t : Bool). weight_fits t (at w i)) (h i l))
 
 -- both sides
-pub weights-law :
+pub weights_law :
     (rows wi wo : List ℕ) (ins outs : ℕ) → ((i : ℕ) → i < 32 → has ins i ≡ in_asks rows i) → ((j : ℕ) → j < 32 → has outs j ≡ out_asks rows j) →
     (side_fits ins wi && side_fits outs wo) ≡ weights_fit rows wi wo
 unfolding weights_fit
-weights-law rows wi wo ins outs p q = ap₂ ◌&&◌ (side_law ins (in_asks rows) wi p) (side_law outs (out_asks rows) wo q)
+weights_law rows wi wo ins outs p q = ap₂ ◌&&◌ (side_law ins (in_asks rows) wi p) (side_law outs (out_asks rows) wo q)
+
+-- as the code says it, with the two tests computed
+pub weights_both :
+    (rows wi wo : List ℕ) (ins outs : ℕ) → ((i : ℕ) → i < 32 → has ins i ≡ in_asks rows i) → ((j : ℕ) → j < 32 → has outs j ≡ out_asks rows j) →
+    (a b : Bool) → a ≡ side_fits ins wi → b ≡ side_fits outs wo → (a && b) ≡ weights_fit rows wi wo
+weights_both rows wi wo ins outs p q a b e f = ap₂ ◌&&◌ e f ∙ weights_law rows wi wo ins outs p q
 
 -- ---- the length of a table
 

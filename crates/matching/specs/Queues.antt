@@ -1,15 +1,17 @@
 -- A lent table of counts: where queue (i, j) stands in it, and an input's requests as a set of outputs. Assumes nothing.
 use Rattle.std.specs.Prelude.{◌≡◌, refl, ◌⊎◌, ◌≢◌, Bool, true, false, not, ◌&&◌, List, [], ◌∷◌, ℕ, zero, suc, ◌+◌, ◌*◌, ◌-◌, ◌^◌, ◌≤◌, ◌<◌, length, set, replicate, ltb}
 use Rattle.std.proofs.Math.Path.{sym, ap}
-use Rattle.std.proofs.Common.{◌∙◌, inl, inr, mul-le-mul_right, lt_of_lt_of_le, arith, pow_mono}
+use Rattle.std.proofs.Common.{◌∙◌, inl, inr, mul-le-mul, mul-le-mul_right, lt_of_lt_of_le, arith, pow_mono}
 use Rattle.std.proofs.Math.Bool.{and-false}
 use borrow.Author.Tests.{lt-ltb, le-ltb}
-use Rattle.masks.specs.Paper.{bit, has, keep, With}
+use Rattle.masks.specs.Paper.{bit, has, keep, sum, With}
 use Rattle.masks.specs.Tests.{cases, lt_or_ge, eq_or_ne, keep_lt, keep_ge}
 use Rattle.masks.proofs.Laws.{same_bits, no_bits, has_on, has_off}
 use Rattle.card.specs.Limits.{Ports}
 use Rattle.card.specs.Paper.{ports}
-use Rattle.matches.specs.Paper.{at, max_weight, mask, count, wants, table_rows}
+use Rattle.matches.specs.Paper.{at, max_weight, mask, count, R, C, table_in, table_out, wants, table_rows, table_refusal}
+use Rattle.matches.proofs.Accepted.{table_ok}
+use Rattle.masks.specs.Sum.{sum_cong}
 use Rattle.matches.proofs.Lists.{tab_cong}
 use Rattle.matches.specs.Accepted.{TableOk}
 use Rattle.matches.proofs.Table.{bit_mask, mask_lt, wants_in}
@@ -24,6 +26,10 @@ pub record Sized (M N : ℕ) (counts : List ℕ) : Type 0 where
 
 pub sized : {M N : ℕ} {counts : List ℕ} {hold : ℕ} → TableOk M N counts hold → Sized M N counts
 sized t = record { sizes = t.sizes; full = t.full }
+
+-- and so of a table that is not refused
+pub accepted_sized : (M N : ℕ) (counts : List ℕ) (hold : ℕ) → table_refusal M N counts hold ≡ 0 → Sized M N counts
+accepted_sized M N counts hold e = sized (table_ok M N counts hold e)
 
 -- queue (i, j) is in the table
 pub record Queue (M N : ℕ) (counts : List ℕ) (i j : ℕ) : Type 0 where
@@ -44,6 +50,49 @@ queue_small {M} {N} {counts} {i} {j} q =
     omega (arith, place_inside M N i j q.in_row q.in_column, mul-le-mul_right N q.table.sizes.ins.high, q.table.sizes.outs.high)
 
 -- ---- totals
+
+-- so many counts from a place on, `step` places apart
+unfoldable pub lane : (counts : List ℕ) → (from len step : ℕ) → ℕ
+lane counts from len step = sum len (λ x. at counts (from + x * step))
+
+-- so many lanes, which begin `apart` places from one another, stand in the list
+pub record Lanes (counts : List ℕ) (lanes apart len step : ℕ) : Type 0 where
+  pub small : length counts ≤ 1024
+  pub few : lanes ≤ ports
+  pub some : 1 ≤ len
+  pub short : len ≤ ports
+  pub inside : (k x : ℕ) → k < lanes → x < len → k * apart + x * step < length counts
+
+module _ (M N : ℕ) (counts : List ℕ) where
+  table_small : Sized M N counts → length counts ≤ 1024
+  table_small s = omega (arith, s.full, mul-le-mul s.sizes.ins.high s.sizes.outs.high)
+
+  -- its rows, and its columns
+  pub row_lanes : Sized M N counts → Lanes counts M N N 1
+  row_lanes s = record {
+    small = table_small s;
+    few = s.sizes.ins.high;
+    some = s.sizes.outs.low;
+    short = s.sizes.outs.high;
+    inside = λ k x l h. omega (arith, s.full, place_inside M N k x l h);
+  }
+
+  pub column_lanes : Sized M N counts → Lanes counts N 1 M N
+  column_lanes s = record {
+    small = table_small s;
+    few = s.sizes.outs.high;
+    some = s.sizes.ins.low;
+    short = s.sizes.ins.high;
+    inside = λ k x l h. omega (arith, s.full, place_inside M N x k h l);
+  }
+
+  pub row_totals : filled ports M (λ k. lane counts (k * N) N 1) ≡ table_in M N counts
+  unfolding filled lane table_in R count
+  row_totals = tab_cong ports _ _ (λ k l. ap (keep (ltb k M)) (sum_cong N _ _ (λ x h. ap (at counts) (omega arith))))
+
+  pub column_totals : filled ports N (λ k. lane counts (k * 1) M N) ≡ table_out M N counts
+  unfolding filled lane table_out C count
+  column_totals = tab_cong ports _ _ (λ k l. ap (keep (ltb k N)) (sum_cong M _ _ (λ x h. ap (at counts) (omega arith))))
 
 -- every one of them within the limit of a weight
 abbrev pub Light : List ℕ → Type 0

@@ -1,16 +1,17 @@
 -- How the ranks are computed: the distinct weights of the ports that ask, found from the last port to the first, at the end of a list.
 -- Assumes nothing.
-use Rattle.std.specs.Prelude.{◌≡◌, refl, Bool, true, false, cond, not, ◌||◌, length, get_or, drop, set, eqb}
+use Rattle.std.specs.Prelude.{◌≡◌, refl, Bool, true, false, cond, not, ◌||◌, length, drop, set, eqb, ltb}
 use Rattle.std.proofs.Common.{sym, ap₂, subst, ◌∙◌, length-set, drop-cons, drop-set-lt, get_or-set_same}
 use Rattle.std.proofs.Math.Path.{ap}
 use mathlib.Core.List.{List, [], ◌∷◌}
 use Prim.Native.Nat.{ℕ, zero, suc, ◌+◌, ◌-◌, ◌≤◌, ◌<◌, suc-le-suc}
-use Rattle.std.proofs.Math.Numerals.{add-one}
 use native.Mathlib.Omega.{arith}
 use Rattle.std.proofs.Math.ListN.{drop_of_length-le}
-use borrow.Author.Tests.{eqb-true, eq-eqb, ne_eqb, lt-ltb, le-ltb}
+use borrow.Author.Tests.{eqb-true, eq-eqb}
 use Rattle.masks.specs.Paper.{keep}
-use Rattle.masks.specs.Tests.{clash}
+use Rattle.masks.specs.Tests.{clash, same_test}
+use Rattle.std.specs.List.{list_any, count_by}
+use Rattle.std.proofs.lemmas.List.Sums.{sum_by-cons}
 use Rattle.card.specs.Paper.{ports}
 use Rattle.matches.specs.Paper.{tab, member, those, distinct, smaller, rank}
 use Rattle.matches.proofs.Lists.{tab_cong}
@@ -36,32 +37,24 @@ pub record Found (b : ℕ → Bool) (w : ℕ → ℕ) (i from : ℕ) (l : List �
   pub top : from ≤ ports
   pub levels : drop from l ≡ distinct (later (ports - i) i b w)
 
--- ---- a list read from place k on
+-- ---- as std's `contains` and a filtered count say it
 
-module _ (x : ℕ) (l : List ℕ) (k : ℕ) where
-  pub member_here : k < length l → get_or l k 0 ≡ x → member x (drop k l) ≡ true
-  unfolding member
-  member_here h e = rw (drop-cons l k 0 h, eq-eqb x (get_or l k 0) (sym e))
+eqb_turned : (x y : ℕ) → eqb y x ≡ eqb x y
+eqb_turned x y = same_test (λ e. eq-eqb x y (sym (eqb-true y x e))) (λ e. eq-eqb y x (sym (eqb-true x y e)))
 
-  pub member_past : k < length l → (get_or l k 0 ≡ x → ⊥) → member x (drop k l) ≡ member x (drop (k + 1) l)
-  unfolding member
-  member_past h ne = rw (drop-cons l k 0 h, ne_eqb x (get_or l k 0) (λ e. ne (sym e)), add-one k)
+pub member_any : (x : ℕ) (l : List ℕ) → list_any (λ y. eqb y x) l ≡ member x l
+unfolding member
+member_any x [] = refl
+member_any x (y ∷ l) = ap₂ ◌||◌ (eqb_turned x y) (member_any x l)
 
-  pub member_end : length l ≤ k → member x (drop k l) ≡ false
-  unfolding member
-  member_end h = rw (drop_of_length-le l {i = k} h)
-
-  pub smaller_here : k < length l → get_or l k 0 < x → smaller x (drop k l) ≡ 1 + smaller x (drop (k + 1) l)
-  unfolding smaller
-  smaller_here h t = rw (drop-cons l k 0 h, add-one k, lt-ltb (get_or l k 0) x t)
-
-  pub smaller_past : k < length l → x ≤ get_or l k 0 → smaller x (drop k l) ≡ smaller x (drop (k + 1) l)
-  unfolding smaller
-  smaller_past h t = rw (drop-cons l k 0 h, add-one k, le-ltb (get_or l k 0) x t) (omega arith)
-
-  pub smaller_end : length l ≤ k → smaller x (drop k l) ≡ 0
-  unfolding smaller
-  smaller_end h = rw (drop_of_length-le l {i = k} h)
+pub smaller_count : (x : ℕ) (l : List ℕ) → count_by (λ y. ltb y x) l ≡ smaller x l
+unfolding smaller
+smaller_count x [] = refl
+smaller_count x (y ∷ l) = sum_by-cons (λ z. cond (ltb z x) 1 0) y l ∙ ap₂ ◌+◌ (kept (ltb y x)) (smaller_count x l)
+  where
+    kept : (b : Bool) → cond b 1 0 ≡ keep b 1
+    kept true = refl
+    kept false = refl
 
 -- ---- one port more: it does not ask, its weight is there already, or it is new
 

@@ -1,99 +1,85 @@
 // The ranks of one side's ports: a port without a request has 0, another 1 plus the number of distinct smaller weights among requesting ports.
-ghost use Rattle.std.specs.Prelude.{◌≡◌, ◌+◌, ◌≤◌, drop};
+ghost use Rattle.std.specs.Prelude.{◌≡◌, true, ◌+◌, ◌≤◌, drop};
 ghost use Rattle.masks.specs.Paper.{has, keep};
 ghost use Rattle.matches.specs.Paper.{at, tab, rank, member, smaller};
 ghost use Rattle.matching.specs.Ranks.{Added, Found};
 
-// The distinct weights of the ports passed. They stand at the end of the list, from place `from` on; what stands before it is no matter.
+// The distinct weights of the ports passed: those from place `from` on. `distinct` keeps the last of equal weights, so they come from the end and each goes
+// in front: an ArrayVec would hold them the other way round.
 #[derive(Clone, Copy)]
 struct Levels {
     from: usize,
     weights: [u32; 32],
+    ghost inside: { from ≤ 32 },
 }
 
-pub fn ranks(asking: u32, weights: [u32; 32]) -> [u32; 32]
+impl Levels {
+    // None yet.
+    fn none(weights: [u32; 32]) -> Levels
+        ensures { (result.from ≡ 32) × (result.weights ≡ weights) }
+    {
+        Levels { from: 32, weights }
+    }
+
+    // The distinct weights.
+    fn distinct(&self) -> &[u32]
+        ensures { result.now ≡ drop self.now.from self.now.weights }
+    {
+        &self.weights[self.from..]
+    }
+
+    // One weight more: it goes in front where it is new.
+    #[tactic(auto, using(crate::specs::Ranks::member_any))]
+    fn add(self, weight: u32) -> Levels
+        requires { 1 ≤ self.from }
+        ensures { Added true weight self.from self.weights result.from result.weights }
+    {
+        let mut weights = self.weights;
+        if self.distinct().contains(&weight) {
+            return self;
+        }
+        let from = self.from - 1;
+        weights[from] = weight;
+        Levels { from, weights }
+    }
+
+    // Of a port that asks, 1 plus the number of smaller weights.
+    #[tactic(auto, using(crate::specs::Ranks::smaller_count))]
+    fn rank(&self, asks: bool, weight: u32) -> u32
+        ensures { result ≡ keep asks (1 + smaller weight (drop self.now.from self.now.weights)) }
+    {
+        if !asks {
+            return 0;
+        }
+        1 + self
+            .distinct()
+            .iter()
+            .filter(|level| **level < weight)
+            .count() as u32
+    }
+}
+
+// Each weight replaced by its port's rank.
+pub fn ranks(asking: u32, mut weights: [u32; 32]) -> [u32; 32]
     ensures { result ≡ tab 32 (rank (has asking) (at weights)) }
 {
     let levels = levels_of(asking, weights);
-    let mut ranks = [0; 32];
-    for i in 0..32u32 {
-        let k = i as usize;
-        let rank = rank_in(levels, masks::has(asking, i), weights[k]);
-        ranks[k] = rank;
+    for (i, weight) in weights.iter_mut().enumerate() {
+        *weight = levels.rank(masks::has(asking, i as u32), *weight);
     }
-    ranks
+    weights
 }
 
-// The distinct weights of the ports that ask. It goes from the last port to the first, as `distinct` keeps the last of equal weights.
+// The distinct weights of the ports that ask, from the last port to the first.
 fn levels_of(asking: u32, weights: [u32; 32]) -> Levels
     ensures { Found (has asking) (at weights) 0 result.from result.weights }
 {
-    let mut levels = Levels {
-        from: 32,
-        weights: weights,
-    };
-    let mut i: u32 = 32;
-    while 0 < i {
-        i -= 1;
-        let k = i as usize;
-        let more = add(levels, masks::has(asking, i), weights[k]);
-        levels = more;
+    let mut levels = Levels::none(weights);
+    // The number of a port is asked of the set and of the list.
+    for i in (0..32u32).rev() {
+        if masks::has(asking, i) {
+            levels = levels.add(weights[i as usize]);
+        }
     }
     levels
-}
-
-// One port more: its weight goes in front where the port asks and the weight is new.
-fn add(levels: Levels, asks: bool, weight: u32) -> Levels
-    requires { (1 ≤ levels.from) × (levels.from ≤ 32) }
-    ensures { Added asks weight levels.from levels.weights result.from result.weights }
-{
-    let from = levels.from;
-    let mut weights = levels.weights;
-    if !asks {
-        return levels;
-    }
-    if among(weight, from, weights) {
-        return levels;
-    }
-    let front = from - 1;
-    weights[front] = weight;
-    Levels {
-        from: front,
-        weights: weights,
-    }
-}
-
-// Whether a weight is among those from place `from` on.
-fn among(weight: u32, from: usize, weights: [u32; 32]) -> bool
-    requires { from ≤ 32 }
-    ensures { result ≡ member weight (drop from weights) }
-{
-    let mut k = from;
-    while k < 32 {
-        if weights[k] == weight {
-            return true;
-        }
-        k += 1;
-    }
-    false
-}
-
-// The rank of a port among these weights.
-fn rank_in(levels: Levels, asks: bool, weight: u32) -> u32
-    requires { levels.from ≤ 32 }
-    ensures { result ≡ keep asks (1 + smaller weight (drop levels.from levels.weights)) }
-{
-    if !asks {
-        return 0;
-    }
-    let weights = levels.weights;
-    let mut rank = 1;
-    let mut k = levels.from;
-    while k < 32 {
-        if weights[k] < weight {
-            rank += 1;
-        }
-        k += 1;
-    }
-    rank
 }

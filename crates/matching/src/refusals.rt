@@ -5,7 +5,7 @@ ghost use Rattle.card.specs.Paper.{number_of};
 ghost use Rattle.matches.specs.Paper.{out_asks, row_fits, rows_fit, weight_fits, weights_fit, table_refusal, weight_refusal};
 ghost use Rattle.matching.specs.Asking.{side_fits};
 
-use card::Verdict;
+use card::Refusal;
 
 // The most that a port with a request may weigh: 32 × 65,535.
 const MOST: u32 = 2097120;
@@ -15,55 +15,59 @@ pub fn asking_outs(rows: [u32; 32]) -> u32
     ensures { (j : ℕ) → j < 32 → has result j ≡ out_asks rows j }
 {
     let mut asking = 0;
-    for i in 0..32u32 {
-        let k = i as usize;
-        asking = masks::either(asking, rows[k]);
+    for row in rows.iter() {
+        asking = masks::either(asking, *row);
     }
     asking
 }
 
 // Refusals 1, 5 and 6: of weighted match and rank form.
-pub fn of_weights(m: u32, n: u32, rows: [u32; 32], inputs: [u32; 32], outputs: [u32; 32]) -> Verdict
+#[tactic(auto, unfolding(matches::specs::Paper::weight_refusal))]
+pub fn of_weights(
+    m: u32,
+    n: u32,
+    rows: [u32; 32],
+    inputs: [u32; 32],
+    outputs: [u32; 32],
+) -> Result<(), Refusal>
     ensures { number_of result ≡ weight_refusal m n rows inputs outputs }
 {
     if !card::ports_fit(m, n) {
-        return Verdict::Size;
+        return Err(Refusal::Size);
     }
     if !rows_fit(m, n, rows) {
-        return Verdict::Row;
+        return Err(Refusal::Row);
     }
     if !weights_fit(rows, inputs, outputs) {
-        return Verdict::Weight;
+        return Err(Refusal::Weight);
     }
-    Verdict::Accepted
+    Ok(())
 }
 
 // Refusals 1, 2 and 3: of table match.
-pub fn of_table(m: u32, n: u32, counts: &[u16], hold: u32) -> Verdict
+#[tactic(auto, unfolding(matches::specs::Paper::table_refusal), using(crate::specs::Asking::table_small))]
+pub fn of_table(m: u32, n: u32, counts: &[u16], hold: u32) -> Result<(), Refusal>
     ensures { number_of result ≡ table_refusal m n counts.now hold }
 {
     if !card::ports_fit(m, n) {
-        return Verdict::Size;
+        return Err(Refusal::Size);
     }
     if counts.len() != (m * n) as usize {
-        return Verdict::Length;
+        return Err(Refusal::Length);
     }
     if !card::names_below(n, hold) {
-        return Verdict::Hold;
+        return Err(Refusal::Hold);
     }
-    Verdict::Accepted
+    Ok(())
 }
 
 // Whether each row fits: refusal 5.
 fn rows_fit(m: u32, n: u32, rows: [u32; 32]) -> bool
     ensures { result ≡ rows_fit m n rows }
 {
-    let mut ok = true;
-    for i in 0..32u32 {
-        let k = i as usize;
-        ok = card::also(ok, row_fits(m, n, i, rows[k]));
-    }
-    ok
+    (0..32u32)
+        .zip(rows.iter())
+        .all(|(i, row)| row_fits(m, n, i, *row))
 }
 
 // Whether the row of input i names outputs below n alone, and is 0 where there is no such input.
@@ -77,27 +81,23 @@ fn row_fits(m: u32, n: u32, i: u32, row: u32) -> bool
 fn weights_fit(rows: [u32; 32], inputs: [u32; 32], outputs: [u32; 32]) -> bool
     ensures { result ≡ weights_fit rows inputs outputs }
 {
-    card::also(
-        side_fits(search::asking(rows), inputs),
-        side_fits(asking_outs(rows), outputs),
-    )
+    let ins = side_fits(search::asking(rows), inputs);
+    let outs = side_fits(asking_outs(rows), outputs);
+    ins && outs
 }
 
 // The same of one side, whose ports that ask are given.
 fn side_fits(asking: u32, weights: [u32; 32]) -> bool
     ensures { result ≡ side_fits asking weights }
 {
-    let mut ok = true;
-    for i in 0..32u32 {
-        let k = i as usize;
-        ok = card::also(ok, weight_fits(masks::has(asking, i), weights[k]));
-    }
-    ok
+    (0..32u32)
+        .zip(weights.iter())
+        .all(|(i, weight)| weight_fits(masks::has(asking, i), *weight))
 }
 
 // Whether a weight is one that a port may have: any where the port does not ask.
 fn weight_fits(asking: bool, weight: u32) -> bool
     ensures { result ≡ weight_fits asking weight }
 {
-    !asking || (1 <= weight && weight <= MOST)
+    !asking || (1..=MOST).contains(&weight)
 }

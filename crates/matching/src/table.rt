@@ -1,105 +1,91 @@
 // The requests and port weights that a table of counts and a hold come to.
-ghost use Rattle.std.specs.Prelude.{◌≡◌, ◌<◌, ◌≤◌, ltb};
+ghost use Rattle.std.specs.Prelude.{◌≡◌, ℕ, ◌+◌, ◌*◌, ◌<◌, ◌≤◌, length, ltb};
 ghost use Rattle.card.specs.Paper.{ports};
-ghost use Rattle.matches.specs.Paper.{max_weight, mask, count, R, C, table_in, table_out, wants, table_rows};
-ghost use Rattle.matches.specs.Accepted.{TableOk};
-ghost use Rattle.matching.specs.Queues.{Sized, Queue, Light, Marked, waits};
+ghost use Rattle.matches.specs.Paper.{max_weight, mask, count, table_in, table_out, table_rows};
+ghost use Rattle.matching.specs.Queues.{Sized, Light, Marked, Lanes, waits, lane};
+ghost use Rattle.matching.specs.Fill.{filled};
 
-// The requests: output j of row i where queue (i, j) is not empty and j is not held.
-pub fn rows(m: u32, n: u32, counts: &[u16], hold: u32) -> [u32; 32]
-    requires { TableOk m n counts.now hold }
-    ensures { result ≡ table_rows m n counts.now hold }
-{
-    let mut rows = [0u32; 32];
-    for i in 0..m {
-        let k = i as usize;
-        rows[k] = row(m, n, counts, hold, i);
-    }
-    rows
+// A lent table: queue (i, j) has its count at place i·N + j.
+#[derive(Clone, Copy)]
+pub struct Table<'a> {
+    pub m: u32,
+    pub n: u32,
+    pub counts: &'a [u16],
+    ghost sized: { Sized m n counts.now },
 }
 
-// R(i) for each input, and 0 from M on.
-pub fn in_totals(m: u32, n: u32, counts: &[u16]) -> [u32; 32]
-    requires { Sized m n counts.now }
-    ensures { (result ≡ table_in m n counts.now) × (Light result) }
-{
-    let mut totals = [0u32; 32];
-    for i in 0..m {
-        let k = i as usize;
-        totals[k] = row_total(m, n, counts, i);
+impl Table<'_> {
+    // The requests: output j of row i where queue (i, j) is not empty and j is not held.
+    pub fn rows(&self, hold: u32) -> [u32; 32]
+        ensures { result ≡ table_rows self.now.m self.now.n self.now.counts.now hold }
+    {
+        // By number: of a part of a list that `iter_mut` goes along nothing is known afterwards.
+        let mut rows = [0; 32];
+        for i in 0..self.m {
+            rows[i as usize] = masks::minus(self.waiting(i), hold);
+        }
+        rows
     }
-    totals
-}
 
-// C(j) for each output, and 0 from N on.
-pub fn out_totals(m: u32, n: u32, counts: &[u16]) -> [u32; 32]
-    requires { Sized m n counts.now }
-    ensures { (result ≡ table_out m n counts.now) × (Light result) }
-{
-    let mut totals = [0u32; 32];
-    for j in 0..n {
-        let k = j as usize;
-        totals[k] = column_total(m, n, counts, j);
+    // R(i) for each input, and 0 from M on. A row of the table is a lane of counts that stand side by side.
+    pub fn in_totals(&self) -> [u32; 32]
+        ensures { (result ≡ table_in self.now.m self.now.n self.now.counts.now) × (Light result) }
+    {
+        self.totals(self.m, self.n, self.n, 1)
     }
-    totals
-}
 
-// What input i requests: the outputs that have cells waiting, without those held.
-fn row(m: u32, n: u32, counts: &[u16], hold: u32, i: u32) -> u32
-    requires { Sized m n counts.now × (i < m) }
-    ensures { result ≡ mask ports (wants m n counts.now hold i) }
-{
-    masks::minus(waiting(m, n, counts, i), hold)
-}
-
-// The outputs that have cells waiting at input i.
-fn waiting(m: u32, n: u32, counts: &[u16], i: u32) -> u32
-    requires { Sized m n counts.now × (i < m) }
-    ensures { result ≡ mask n (waits m n counts.now i) }
-{
-    let mut row: u32 = 0;
-    for j in 0..n {
-        row = mark(row, j, queued(m, n, counts, i, j));
+    // C(j) for each output, and 0 from N on. A column is a lane of counts that stand N places apart.
+    pub fn out_totals(&self) -> [u32; 32]
+        ensures { (result ≡ table_out self.now.m self.now.n self.now.counts.now) × (Light result) }
+    {
+        self.totals(self.n, 1, self.m, self.n)
     }
-    row
+
+    // The outputs that have cells waiting at input i.
+    fn waiting(&self, i: u32) -> u32
+        requires { i < self.now.m }
+        ensures { result ≡ mask self.now.n (waits self.now.m self.now.n self.now.counts.now i) }
+    {
+        let from = (i * self.n) as usize;
+        let counts = &self.counts[from..from + self.n as usize];
+        let mut row = 0;
+        for (j, cells) in counts.iter().enumerate() {
+            row = mark(row, j as u32, *cells);
+        }
+        row
+    }
+
+    // What each of so many lanes holds, and 0 behind them: lanes begin `apart` places from one another, and have `len` counts `step` places apart.
+    fn totals(&self, lanes: u32, apart: u32, len: u32, step: u32) -> [u32; 32]
+        requires { Lanes self.now.counts.now lanes apart len step }
+        ensures { (result ≡ filled ports lanes (λ k. lane self.now.counts.now (k * apart) len step)) × (Light result) }
+    {
+        // By number, as in `rows`.
+        let mut totals = [0; 32];
+        for k in 0..lanes {
+            totals[k as usize] = self.total(k * apart, len, step);
+        }
+        totals
+    }
+
+    // The cells of one lane.
+    fn total(&self, from: u32, len: u32, step: u32) -> u32
+        requires { (len ≤ 32) × ((x : ℕ) → x < len → from + x * step < length self.now.counts.now) }
+        ensures { (result ≡ lane self.now.counts.now from len step) × (result ≤ max_weight) }
+    {
+        // A lane's counts stand apart, and the `sum` of `step_by` and `take` is not known to stay below its bound: so they are read by their places.
+        let counts = self.counts;
+        let mut total = 0;
+        for x in 0..len {
+            total += u32::from(counts[(from + x * step) as usize]);
+        }
+        total
+    }
 }
 
 // row, with output j where cells wait for it.
-fn mark(row: u32, j: u32, cells: u32) -> u32
+fn mark(row: u32, j: u32, cells: u16) -> u32
     ensures { Marked row j (ltb 0 cells) result }
 {
     if cells > 0 { masks::with(row, j) } else { row }
-}
-
-// R(i): the cells of input i.
-fn row_total(m: u32, n: u32, counts: &[u16], i: u32) -> u32
-    requires { Sized m n counts.now × (i < m) }
-    ensures { (result ≡ R m n counts.now i) × (result ≤ max_weight) }
-{
-    let mut total: u32 = 0;
-    for j in 0..n {
-        total += queued(m, n, counts, i, j);
-    }
-    total
-}
-
-// C(j): the cells for output j.
-fn column_total(m: u32, n: u32, counts: &[u16], j: u32) -> u32
-    requires { Sized m n counts.now × (j < n) }
-    ensures { (result ≡ C m n counts.now j) × (result ≤ max_weight) }
-{
-    let mut total: u32 = 0;
-    for i in 0..m {
-        total += queued(m, n, counts, i, j);
-    }
-    total
-}
-
-// How many cells queue (i, j) holds. The code asks for no m: the contract does, for the queue to stand in the list.
-fn queued(m: u32, n: u32, counts: &[u16], i: u32, j: u32) -> u32
-    requires { Queue m n counts.now i j }
-    ensures { (result ≡ count m n counts.now i j) × (result ≤ 65535) }
-{
-    let k = (i * n + j) as usize;
-    counts[k] as u32
 }

@@ -1,2 +1,4 @@
+pub mod Outcome
 pub mod Paper
+pub mod Printed
 pub mod Room

@@ -16,7 +16,7 @@ unfoldable pub places_of : Card → ℕ
 places_of c = cond (card_fits c.m c.n c.d) (c.m * c.n * c.d) 0
 
 -- a log that passes has a card within its limits
-passed_fits : (log : List ℕ) → (check log).fault.refusal ≡ 0 → card_fits (check log).m (check log).n (check log).d ≡ true
+pub passed_fits : (log : List ℕ) → (check log).fault.refusal ≡ 0 → card_fits (check log).m (check log).n (check log).d ≡ true
 passed_fits log e =
     let w = passed_whole log e in
     rw (whole_passes log w) (are_sizes _ _ _ (head_is log w.head).sizes)

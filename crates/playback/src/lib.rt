@@ -2,103 +2,123 @@
 // `slot` and `lines`.
 #![tactic(auto)]
 
-ghost use Rattle.std.specs.Prelude.{◌≡◌, ◌≤◌, length};
+ghost use Rattle.std.specs.Prelude.{◌≡◌, ◌≤◌, OnOk, MatchResult};
+ghost use Rattle.std.specs.Io.KnownBytes.{Appends};
+ghost use Rattle.card.specs.Paper.{number_of};
+ghost use Rattle.slot.specs.Paper.{room};
+ghost use Rattle.slot.specs.Answers.{state_of};
+ghost use Rattle.lines.specs.Paper.{slot_line};
+ghost use Rattle.lines.specs.Text.{text_of};
 ghost use Rattle.playback.specs.Paper.{replay_refusal};
+ghost use Rattle.playback.specs.Printed.{step, played, begun, ended, replay_text};
 ghost use Rattle.playback.specs.Room.{places_of};
+ghost use Rattle.playback.specs.Outcome.{Runs, Stops};
 
-use card::Card;
+use card::{Arrivals, Card, Refusal};
 use lines::Line;
-use slot::Record;
-use std::io::Print;
+use slot::{Record, Report};
+use slotlog::{Checked, Fault, Slot};
+use std::io;
+use std::io::{Print, Write};
 
 // The room of the replay: the most places that a card may have.
 const ROOM: usize = 2048;
 
-// Prints the replay of a log, or the one line that says why it is refused. Answers the refusal, and 0 where the log was run.
-pub fn replay<P: Print>(rt: &P, log: &[u8]) -> u32
-    ensures { result ≡ replay_refusal log.now }
+// What came of a replay: why the log is refused, if it is, and the first write that failed.
+#[derive(Drop)]
+pub struct Replayed {
+    pub outcome: Result<(), Refusal>,
+    pub written: io::Result<()>,
+}
+
+// Prints the replay of a log, or the one line that says why it is refused. A line that cannot be written is lost.
+pub fn replay<P: Print>(rt: &P, log: &[u8]) -> Result<(), Refusal>
+    ensures { number_of result ≡ replay_refusal log.now }
 {
-    let checked = slotlog::check(log);
-    let verdict = checked.verdict;
-    let refusal = verdict.number();
-    if refusal != 0 {
-        print(rt, lines::refusal_line(refusal, checked.fault_at));
-        return refusal;
+    let mut out = io::writer(rt);
+    let replayed = replay_to(&mut out, log);
+    replayed.outcome
+}
+
+// The same to any writer, with what became of the writes. A write that fails stops nothing: the lines behind it are tried.
+pub fn replay_to<W: Write>(out: &mut W, log: &[u8]) -> Replayed
+    ensures outcome { number_of result.outcome ≡ replay_refusal log.now }
+    ensures text { OnOk result.written (Appends (W.contents out.old) (W.contents out.new) (replay_text log.now)) }
+{
+    match accepted(log) {
+        Ok((checked, places)) => Replayed {
+            outcome: Ok(()),
+            written: run(out, log, checked, places),
+        },
+        Err(fault) => Replayed {
+            outcome: Err(fault.refusal),
+            written: print(
+                out,
+                lines::refusal_line(u32::from(fault.refusal), fault.record),
+            ),
+        },
     }
-    let card = checked.card;
-    let places = places(card);
+}
+
+// The whole-log check, and how many places the card has, if there is room for them: else it is refused by 2, in no record.
+#[tactic(auto, using(crate::proofs::Outcomes::check_stops))]
+fn accepted(log: &[u8]) -> Result<(Checked, usize), Fault>
+    ensures { MatchResult result (λ run. Runs log.now run.0 run.1) (Stops log.now) }
+{
+    let checked = slotlog::check(log)?;
+    let places = places(checked.card);
     let larger = ROOM < places;
     if larger {
-        print(rt, lines::refusal_line(2, 0));
-        return 2;
+        return Err(Fault::from(Refusal::Length));
     }
-    run(rt, log, card, places, checked.count);
-    0
+    Ok((checked, places))
 }
 
-// Lends the card its memory.
-fn run<P: Print>(rt: &P, log: &[u8], card: Card, places: usize, count: u32)
-    requires { places ≤ 2048 }
+// Runs every slot on a fresh card with so many places, and prints the counters last.
+fn run<W: Write>(out: &mut W, log: &[u8], checked: Checked, places: usize) -> io::Result<()>
+    requires fits { places ≤ 2048 }
+    requires whole { places ≡ room checked.card }
+    ensures { OnOk result (Appends (W.contents out.old) (W.contents out.new) (ended (played log.now (begun checked.card) checked.count))) }
 {
-    let mut cells = zeros();
-    let mut stamps = zeros();
-    play(
-        rt,
-        log,
-        card,
-        count,
-        &mut cells[..places],
-        &mut stamps[..places],
-    );
-}
-
-// Runs every slot on a fresh card, and prints the counters last.
-fn play<P: Print>(
-    rt: &P,
-    log: &[u8],
-    card: Card,
-    count: u32,
-    cells: &mut [u32],
-    stamps: &mut [u32],
-) {
-    let made = Record::fresh(card, cells, stamps);
-    let mut record = made.record;
-    for k in 0..count {
-        let next = step(rt, log, k, record, cells, stamps);
+    // Two lists, as the slot takes them.
+    let (mut cells, mut stamps) = ([0; ROOM], [0; ROOM]);
+    let cells = &mut cells[..places];
+    let stamps = &mut stamps[..places];
+    let mut record = Record::fresh(checked.card, cells, stamps).unwrap_or(Record::empty());
+    let mut written = Ok(());
+    // A slot is read by its number, which document 01's `read` takes.
+    for k in 0..checked.count {
+        let (next, line) = step(log, k, record, cells, stamps);
         record = next;
+        written = written.and(print(out, line));
     }
-    let counters = record.counters;
-    print(rt, lines::last_line(counters, record.waiting()));
+    let last = lines::last_line(record.counters, record.waiting());
+    written.and(print(out, last))
 }
 
-// One slot of the log, and its line.
-fn step<P: Print>(
-    rt: &P,
-    log: &[u8],
-    k: u32,
-    record: Record,
-    cells: &mut [u32],
-    stamps: &mut [u32],
-) -> Record {
-    let slot = record.slot;
-    let given = slotlog::read(log, k);
-    let arrivals = given.arrivals;
-    let stepped = record.slot(given.hold, arrivals, cells, stamps);
-    let report = stepped.report;
-    print(rt, lines::slot_line(slot, report));
-    stepped.record
+// One slot of the log, and its line. What the log's check has let through is not refused here.
+fn step(log: &[u8], k: u32, kept: Record, cells: &mut [u32], stamps: &mut [u32]) -> (Record, Line)
+    ensures state { state_of result.0 cells.new stamps.new ≡ (step log.now k (state_of kept cells.old stamps.old)).state }
+    ensures line { text_of result.1 ≡ slot_line kept.slot (step log.now k (state_of kept cells.old stamps.old)).report }
+{
+    let nothing = Slot {
+        hold: 0,
+        arrivals: Arrivals::none(),
+    };
+    let given = slotlog::read(log, k).unwrap_or(nothing);
+    let stepped = kept.slot(given.hold, given.arrivals, cells, stamps);
+    let report = stepped.outcome.unwrap_or(Report::none());
+    (stepped.record, lines::slot_line(kept.slot, report))
 }
 
-// Writes a line at once. Its end is always within it: the test spares a contract that says so.
-fn print<P: Print>(rt: &P, line: Line) {
-    let bytes = line.bytes;
-    let len = line.len;
-    if len <= 1536 {
-        let _ = rt.write_all(&bytes[..len]);
-    }
+// Writes a line at once.
+fn print<W: Write>(out: &mut W, line: Line) -> io::Result<()>
+    ensures { OnOk result (Appends (W.contents out.old) (W.contents out.new) (text_of line)) }
+{
+    out.write_all(line.text.as_bytes())
 }
 
-// How many places a card has. A checked log has a card within its limits; another would have none.
+// How many places a card has; none where it is not within its limits, as `places_of` has it, so that any card may be asked.
 fn places(card: Card) -> usize
     ensures { result ≡ places_of card }
 {
@@ -106,11 +126,4 @@ fn places(card: Card) -> usize
         return 0;
     }
     card.m as usize * card.n as usize * card.d as usize
-}
-
-// Room for the places. The length is what lending a part of them asks.
-fn zeros() -> [u32; ROOM]
-    ensures { 2048 ≡ length result }
-{
-    [0; ROOM]
 }

@@ -1,6 +1,6 @@
 -- Document 01, "The card" and "One slot, in order", of one queue. This file is what a reader must believe. Assumes nothing.
 -- `ltb`, `leb` and `eqb` are the tests <, ≤ and = on numbers.
-use Rattle.std.specs.Prelude.{ℕ, zero, suc, ◌+◌, ◌-◌, ◌%◌, ◌^◌, Bool, cond, ◌&&◌, List, [], ◌∷◌, length, ◌==◌, nat_le, nat_lt, slice_index, slice_set}
+use Rattle.std.specs.Prelude.{ℕ, zero, suc, ◌+◌, ◌-◌, ◌%◌, ◌^◌, Bool, cond, ◌&&◌, Option, Some, None, List, [], ◌∷◌, length, ◌==◌, nat_le, nat_lt, slice_index, slice_set}
 use Rattle.card.specs.Paper.{depth, within}
 use Rattle.queue.specs.declared.Queue.{Queue}
 use Rattle.queue.specs.declared.Sent.{Sent}
@@ -73,8 +73,9 @@ pub record Sending : Type 0 where
   pub cell : ℕ
   pub wait : ℕ
 
-abbrev pub sent_of : Sent → List ℕ → List ℕ → Sending
-sent_of r cells stamps = record { ring = ring_of r.queue cells stamps; cell = r.cell; wait = r.wait }
+abbrev pub sent_of : Option Sent → Queue → List ℕ → List ℕ → Sending
+sent_of None q cells stamps = record { ring = ring_of q cells stamps; cell = 0; wait = 0 }
+sent_of (Some r) q cells stamps = record { ring = ring_of q cells stamps; cell = r.cell; wait = r.wait }
 
 -- an empty queue sends nothing
 unfoldable pub send : (slot : ℕ) → Ring → Sending

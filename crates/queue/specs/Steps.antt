@@ -1,5 +1,5 @@
 -- Each way out of `store` and `send`, as a law about the definitions; and what it says that a queue stands. Assumes nothing.
-use Rattle.std.specs.Prelude.{◌≡◌, ℕ, ◌+◌, ◌%◌, ◌^◌, ◌<◌, ◌≤◌, true, false}
+use Rattle.std.specs.Prelude.{◌≡◌, ℕ, ◌+◌, ◌-◌, ◌%◌, ◌^◌, ◌<◌, ◌≤◌, true, false}
 use Rattle.std.proofs.Math.Bool.{and-false}
 use Rattle.std.proofs.Common.{arith}
 use borrow.Author.Tests.{ltb-true, leb-true, eqb-true, lt-ltb, le-ltb, le-leb, eq-eqb}
@@ -65,6 +65,10 @@ module _ (slot : ℕ) (q : Ring) where
 pub wait_law : (slot stamp r : ℕ) → slot < 2 ^ 32 → stamp < 2 ^ 32 → r < 2 ^ 32 → (r + stamp) % 2 ^ 32 ≡ slot → r ≡ wait_of slot stamp
 unfolding wait_of
 wait_law slot stamp r a b c e = omega arith
+
+pub wait_value : (slot stamp : ℕ) → slot < 2 ^ 32 → stamp < 2 ^ 32 → (slot + (2 ^ 32 - stamp)) % 2 ^ 32 ≡ wait_of slot stamp
+unfolding wait_of
+wait_value slot stamp a b = omega arith
 
 pub wait_back : (slot stamp : ℕ) → slot < 2 ^ 32 → stamp < 2 ^ 32 → (wait_of slot stamp + stamp) % 2 ^ 32 ≡ slot
 unfolding wait_of

@@ -26,7 +26,7 @@ use Rattle.search.specs.declared.choice.Rest.{Rest}
 use Rattle.search.specs.declared.choice.Found.{Found}
 use Rattle.search.specs.Pair.{Paired, Unlink}
 use Rattle.search.specs.Stage.{wants}
-use Rattle.search.specs.Problem.{Sound, WithoutPair, LeftOf}
+use Rattle.search.specs.Problem.{WithoutPair, LeftOf}
 use Rattle.search.specs.ProblemSteps.{Kept, kept_bits, left_exists, without_pair}
 use Rattle.search.specs.Heaviest.{Heaviest, match_of_paired}
 
@@ -131,7 +131,6 @@ pub record Placing (all : Problem) (rows ins outs : List ℕ) (s : Rest) (i left
 
 -- what the code needs of what is left
 pub record Fit (all : Problem) (s : Rest) : Type 0 where
-  pub whole : Sound all
   pub problem : Problem
   pub is_left : LeftOf all s.ins s.outs problem
   pub paired : Paired (wants problem.rows) s.pairing
@@ -430,9 +429,9 @@ module _ (all : Problem) (rows ins outs : List ℕ) (s : Rest) (i : ℕ) (li : i
     all_failed : (b : ℕ) → b < 32 → b < at s.pairing.mine i → Fails b
     all_failed b lb l = pl.failed b lb l (bit_of_zero b)
 
-    pub keeps : Sound all → (t : Rest) → Keeping ins outs s i t → State all rows ins outs t (suc i)
+    pub keeps : (t : Rest) → Keeping ins outs s i t → State all rows ins outs t (suc i)
     unfolding asks
-    keeps sound t k = go (lt_or_ge (at s.pairing.mine i) 32) (left_exists all t.ins t.outs sound)
+    keeps t k = go (lt_or_ge (at s.pairing.mine i) 32) (left_exists all t.ins t.outs)
       where
         now : ℕ
         now = at s.pairing.mine i
@@ -490,8 +489,8 @@ skip_state all rows ins outs s i li z h = record {
     same k b (inl e) = let f : asks rows k b ≡ false = ap (λ (x : ℕ). asks rows x b) e ∙ silent b in nobody (leb i k) _ f ∙ sym (nobody (leb (suc i) k) _ f)
     same k b (inr d) = ap (λ (t : Bool). t && can_take rows k T b) (later k i d)
 
-pub state_fit : (all : Problem) (rows ins outs : List ℕ) (s : Rest) (i : ℕ) → Sound all → State all rows ins outs s i → Fit all s
-state_fit all rows ins outs s i so h = record { whole = so; problem = h.problem; is_left = h.is_left; paired = h.heavy.paired }
+pub state_fit : (all : Problem) (rows ins outs : List ℕ) (s : Rest) (i : ℕ) → State all rows ins outs s i → Fit all s
+state_fit all rows ins outs s i h = record { problem = h.problem; is_left = h.is_left; paired = h.heavy.paired }
 
 -- rows by another name
 pub state_over : (all : Problem) (rows rows' ins outs : List ℕ) (s : Rest) (i : ℕ) → rows ≡ rows' → State all rows ins outs s i → State all rows' ins outs s i
@@ -515,20 +514,20 @@ pub no_partners : (k : ℕ) → k < 32 → at (numbers (replicate 32 (out none))
 no_partners k l = ap (λ (x : List ℕ). at x k) (numbers_replicate 32 none) ∙ get_or-replicate 32 k none 0 l
 
 -- the whole problem is what is left at first
-whole_left : (all : Problem) → Sound all → LeftOf all all.ins all.outs all
-whole_left all so = record { sound = so; rows = λ k b lk lb. bits k b lk lb (lt_or_ge 0 (bit all.ins k)) (lt_or_ge 0 (bit all.outs b)) }
+whole_left : (all : Problem) → LeftOf all all.ins all.outs all
+whole_left all = record { rows = λ k b lk lb. bits k b lk lb (lt_or_ge 0 (bit all.ins k)) (lt_or_ge 0 (bit all.outs b)) }
   where
     bits : (k b : ℕ) → k < 32 → b < 32 → (0 < bit all.ins k) ⊎ (bit all.ins k ≤ 0) → (0 < bit all.outs b) ⊎ (bit all.outs b ≤ 0)
         → bit (at all.rows k) b ≡ min (bit all.ins k) (min (bit (at all.rows k) b) (bit all.outs b))
-    bits k b lk lb (inr z) o = omega (arith, ap (λ (x : ℕ). bit x b) (so.ins k lk (omega arith)), bit_of_zero b)
-    bits k b lk lb (inl i) (inr z) = omega (arith, so.columns.turned k b lk lb, ap (λ (x : ℕ). bit x k) (so.outs b lb (omega arith)), bit_of_zero k)
+    bits k b lk lb (inr z) o = omega (arith, ap (λ (x : ℕ). bit x b) (all.others_idle k lk (omega arith)), bit_of_zero b)
+    bits k b lk lb (inl i) (inr z) = omega (arith, all.turned k b lk lb, ap (λ (x : ℕ). bit x k) (all.others_free b lb (omega arith)), bit_of_zero k)
     bits k b lk lb (inl i) (inl o) = omega (arith, bit_lt (at all.rows k) b)
 
-pub state_begin : (all : Problem) (ins outs : List ℕ) (s : Rest) → Sound all → s.ins ≡ all.ins → s.outs ≡ all.outs → Heaviest all.rows ins outs s.pairing
+pub state_begin : (all : Problem) (ins outs : List ℕ) (s : Rest) → s.ins ≡ all.ins → s.outs ≡ all.outs → Heaviest all.rows ins outs s.pairing
     → s.weight ≡ weight 32 32 (at ins) (at outs) (at s.pairing.mine) → s.partners ≡ replicate 32 (out none) → State all all.rows ins outs s 0
-state_begin all ins outs s so ei eo g ew ep = record {
+state_begin all ins outs s ei eo g ew ep = record {
   problem = all;
-  is_left = rw (ei, eo) (whole_left all so);
+  is_left = rw (ei, eo) (whole_left all);
   heavy = g;
   weighs = ew;
   left = λ k b lk lb. all_left all.rows (numbers s.partners) k b;

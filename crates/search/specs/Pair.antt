@@ -1,6 +1,6 @@
 -- Pairings: what one store changes, and what linking and unlinking keep. Assumes nothing.
-use Rattle.std.specs.Prelude.{◌≡◌, ℕ, ◌-◌, ◌^◌, ◌≤◌, ◌<◌, replicate}
-use Rattle.std.proofs.Common.{sym, ap, ◌∙◌, arith}
+use Rattle.std.specs.Prelude.{◌≡◌, List, ℕ, ◌-◌, ◌^◌, ◌≤◌, ◌<◌, length, replicate, set}
+use Rattle.std.proofs.Common.{sym, ap, ◌∙◌, arith, get_or-set_same, get_or-set_other}
 use Rattle.std.proofs.lemmas.List.{get_or-replicate}
 use Rattle.std.proofs.Math.Decide.{ℕ_discrete}
 use Rattle.masks.specs.Paper.{bit, With, Without}
@@ -48,6 +48,9 @@ pub record Unlinked (m t : ℕ → ℕ) (x : ℕ) (m' t' : ℕ → ℕ) : Type 0
   pub others : (k : ℕ) → (k ≡ m x → ⊥) → t' k ≡ t k
 
 -- ---- stores, by the records
+
+pub put_set : (l : List ℕ) (i v : ℕ) → i < length l → Put (at l) i v (at (set l i v))
+put_set l i v h = record { here = get_or-set_same l i v 0 h; other = λ k d. get_or-set_other l i k v 0 d }
 
 pub linked : (m t a : ℕ → ℕ) (x j o : ℕ) (m' t' : ℕ → ℕ) → o ≡ m x → Put m x j m' → Freed t o a → Put a j x t' → Linked m t x j m' t'
 linked m t a x j o m' t' eo pm f' pt = let f : Freed t (m x) a = rw eo at f' in record {

@@ -13,12 +13,6 @@ pub record Asking (rows : List ℕ) (set : ℕ) : Type 0 where
   pub is : (k : ℕ) → k < 32 → has set k ≡ in_asks rows k
   pub outside : (k : ℕ) → k < 32 → bit set k ≡ 0 → at rows k ≡ 0
 
--- both sides agree, and who is outside the two sets has no request
-pub record Sound (p : Problem) : Type 0 where
-  pub columns : Columns p.rows p.cols
-  pub ins : (i : ℕ) → i < 32 → bit p.ins i ≡ 0 → at p.rows i ≡ 0
-  pub outs : (j : ℕ) → j < 32 → bit p.outs j ≡ 0 → at p.cols j ≡ 0
-
 -- rest has the requests of rows but those of input i and those for output j
 pub record Struck (rows : List ℕ) (i j : ℕ) (rest : List ℕ) : Type 0 where
   pub row : (b : ℕ) → b < 32 → i < 32 → bit (at rest i) b ≡ 0
@@ -27,15 +21,12 @@ pub record Struck (rows : List ℕ) (i j : ℕ) (rest : List ℕ) : Type 0 where
 
 -- p is the problem of these rows
 pub record ProblemOf (given : List ℕ) (p : Problem) : Type 0 where
-  pub sound : Sound p
   pub rows : p.rows ≡ given
 
 -- rest is p without input i and output j
 pub record WithoutPair (p : Problem) (i j : ℕ) (rest : Problem) : Type 0 where
-  pub sound : Sound rest
   pub rows : Struck p.rows i j rest.rows
 
 -- r has the requests of all between the inputs and outputs that are left
 pub record LeftOf (all : Problem) (ins outs : ℕ) (r : Problem) : Type 0 where
-  pub sound : Sound r
   pub rows : (k b : ℕ) → k < 32 → b < 32 → bit (at r.rows k) b ≡ min (bit ins k) (min (bit (at all.rows k) b) (bit outs b))

@@ -1,5 +1,5 @@
 -- What the steps promise that turn rows into columns and take a pair out, and why they add up. Assumes nothing.
-use Rattle.std.specs.Prelude.{◌≡◌, List, ℕ, zero, suc, ◌+◌, ◌^◌, ◌≤◌, ◌<◌, min, max, length, set, replicate, Bool, true, false, ◌&&◌, ◌⊎◌, eqb}
+use Rattle.std.specs.Prelude.{◌≡◌, refl, List, ℕ, zero, suc, ◌+◌, ◌^◌, ◌≤◌, ◌<◌, min, max, length, set, replicate, Bool, true, false, ◌&&◌, ◌⊎◌, eqb}
 use Rattle.std.proofs.Common.{sym, ap, ◌∙◌, arith, length-set, get_or-set_same, get_or-set_other, inl, inr, lt-ltb}
 use Rattle.std.proofs.Math.Decide.{ℕ_discrete}
 use Rattle.std.proofs.lemmas.List.{length-replicate, get_or-replicate}
@@ -11,7 +11,7 @@ use Rattle.matches.specs.Paper.{at, tab, asks, mask, in_asks}
 use Rattle.matches.proofs.Lists.{get_or_tab}
 use Rattle.matches.proofs.Table.{bit_mask, mask_lt}
 use Rattle.search.specs.declared.problem.Problem.{Problem}
-use Rattle.search.specs.Problem.{Asking, Sound, WithoutPair, LeftOf}
+use Rattle.search.specs.Problem.{Asking, WithoutPair, LeftOf}
 
 -- ---- COLUMNS
 
@@ -26,6 +26,9 @@ pub record Spreading (cols : List ℕ) (row i : ℕ) (to : List ℕ) (left : ℕ
   pub long : length to ≡ 32
   pub here : (j : ℕ) → j < 32 → max (bit (at to j) i) (bit left j) ≡ max (bit (at cols j) i) (bit row j)
   pub other : (j k : ℕ) → (k ≡ i → ⊥) → bit (at to j) k ≡ bit (at cols j) k
+
+pub spread_begin : {cols : List ℕ} {row i : ℕ} (left : ℕ) → length cols ≡ 32 → left ≡ row → Spreading cols row i cols left
+spread_begin {cols} {row} {i} left l e = record { long = l; here = λ j _. ap (λ (x : ℕ). max (bit (at cols j) i) (bit x j)) e; other = λ j k d. refl }
 
 -- one turn: input i joins column j, and j is no longer left
 pub spread_turn : {cols : List ℕ} {row i : ℕ} {to : List ℕ} {left : ℕ} (j v less : ℕ) → Spreading cols row i to left
@@ -183,16 +186,9 @@ pub narrow_left : {rows : List ℕ} {mine theirs : ℕ} {r : List ℕ} → Narro
 narrow_left t = record { bits = λ k b lk lb. t.done k b lk; empty = t.empty }
 
 -- both sides lose the same requests, so they still agree
-pub left_law : (all rest : Problem) → Sound all → Left all.rows rest.ins rest.outs rest.rows → Left all.cols rest.outs rest.ins rest.cols
-    → LeftOf all rest.ins rest.outs rest
-left_law all rest h r c = record {
-  sound = record {
-    columns = record { turned = λ i j li lj. omega (arith, r.bits i j li lj, c.bits j i lj li, h.columns.turned i j li lj) };
-    ins = r.empty;
-    outs = c.empty;
-  };
-  rows = r.bits;
-}
+pub left_turned : {rows cols r c : List ℕ} {ins outs : ℕ} → ((i j : ℕ) → i < 32 → j < 32 → bit (at cols j) i ≡ bit (at rows i) j) → Left rows ins outs r → Left cols outs ins c
+    → (i j : ℕ) → i < 32 → j < 32 → bit (at c j) i ≡ bit (at r i) j
+left_turned t r c i j li lj = omega (arith, r.bits i j li lj, c.bits j i lj li, t i j li lj)
 
 -- ---- the same, as a definition
 
@@ -223,17 +219,27 @@ narrowed_left rows mine theirs = record { bits = bits; empty = λ k lk z. no_bit
         ∙ all_of (bit mine k) (bit (at rows k) b) (bit theirs b) (bit_lt mine k) (bit_lt (at rows k) b) (bit_lt theirs b)
 
 left_of : Problem → ℕ → ℕ → Problem
-left_of all ins outs = record { rows = narrowed all.rows ins outs; cols = narrowed all.cols outs ins; ins = ins; outs = outs }
+left_of all ins outs =
+    let r = narrowed_left all.rows ins outs in
+    let c = narrowed_left all.cols outs ins in
+    record {
+      rows = narrowed all.rows ins outs;
+      cols = narrowed all.cols outs ins;
+      ins = ins;
+      outs = outs;
+      turned = left_turned all.turned r c;
+      others_idle = r.empty;
+      others_free = c.empty;
+    }
 
-pub left_exists : (all : Problem) (ins outs : ℕ) → Sound all → (rest : Problem) × LeftOf all ins outs rest
+pub left_exists : (all : Problem) (ins outs : ℕ) → (rest : Problem) × LeftOf all ins outs rest
 unfolding left_of
-left_exists all ins outs h = (left_of all ins outs, left_law all (left_of all ins outs) h (narrowed_left all.rows ins outs) (narrowed_left all.cols outs ins))
+left_exists all ins outs = (left_of all ins outs, record { rows = (narrowed_left all.rows ins outs).bits })
 
 -- ---- a pair out
 
 pub without_pair : {all p rest : Problem} {ins outs i j ins' outs' : ℕ} → LeftOf all ins outs p → Without ins i ins' → Without outs j outs' → LeftOf all ins' outs' rest → WithoutPair p i j rest
 without_pair {all} {p} {rest} {ins} {outs} {i} {j} {ins'} {outs'} a wi wo b = record {
-  sound = b.sound;
   rows = record {
     row = λ c lc li. omega (arith, b.rows i c li lc, wi.here);
     column = λ k lk lj. omega (arith, b.rows k j lk lj, wo.here);

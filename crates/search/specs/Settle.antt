@@ -1,5 +1,5 @@
 -- What the settling promises. Assumes nothing.
-use Rattle.std.specs.Prelude.{◌≡◌, refl, ◌⊎◌, List, ℕ, ◌+◌, ◌≤◌, ◌<◌, min, eqb}
+use Rattle.std.specs.Prelude.{◌≡◌, refl, ◌⊎◌, List, ℕ, ◌+◌, ◌≤◌, ◌<◌, min, eqb, Some, None}
 use Rattle.std.proofs.Common.{sym, ap, ◌∙◌, inl, inr, arith}
 use Rattle.std.proofs.Math.Decide.{ℕ_discrete}
 use Rattle.masks.specs.Paper.{bit, has, Without}
@@ -11,7 +11,7 @@ use Rattle.search.specs.declared.reach.Search.{Search}
 use Rattle.search.specs.declared.pairing.Pairing.{Pairing}
 use Rattle.search.specs.Pair.{Paired}
 use Rattle.search.specs.Stage.{wants, Closed, Trail, stage_room}
-use Rattle.search.specs.Reach.{Reached}
+use Rattle.search.specs.Reach.{port_at, finder_at, Reached}
 use Rattle.search.specs.Augment.{Ready, Augmented, trail_cut}
 use Rattle.search.specs.Exchange.{Giving, Exchanged}
 use Rattle.search.specs.Loss.{loss, loss_augmented, loss_idle}
@@ -96,50 +96,50 @@ pub record Visited (rows ws : List ℕ) (p : Pairing) (u : ℕ) (r : Pairing) : 
 -- ---- a try
 
 module _ (rows ws : List ℕ) (p : Pairing) (u : ℕ) (pp : Paired (wants rows) p) (lu : u < 32) (fr : 32 ≤ at p.mine u) (s : Search) (h : Reached rows p u s) where
-  pub queue_of : Queue (at s.queue) s.len
+  pub queue_of : Queue (port_at s) s.len
   queue_of = record { some = h.stage.some; room = stage_room h.stage; within = h.stage.trail.within }
 
-  first_free : 32 ≤ at p.mine (at s.queue 0)
+  first_free : 32 ≤ at p.mine (port_at s 0)
   first_free = omega (arith, ap (at p.mine) h.root)
 
-  trail_to : (k : ℕ) → k < s.len → Trail (wants rows) (at p.mine) (at s.queue) (at s.from) (k + 1)
+  trail_to : (k : ℕ) → k < s.len → Trail (wants rows) (at p.mine) (port_at s) (finder_at s) (k + 1)
   trail_to k l = trail_cut _ _ _ _ _ s.len (k + 1) h.stage.trail (omega arith) (λ i li. refl)
 
-  pub ready_at : s.found < 32 → Ready (wants rows) p (at s.queue) (at s.from) s.at s.found
-  ready_at f = let g = h.hit f in record {
+  pub ready_at : (j : ℕ) → s.found ≡ Some j → Ready (wants rows) p (port_at s) (finder_at s) s.at j
+  ready_at j f = let g = h.hit j f in record {
     paired = pp;
     trail = trail_to s.at g.inside;
     room = omega (arith, g.inside, stage_room h.stage);
-    out = f;
+    out = g.out;
     asked = g.asked;
     vacant = g.vacant;
     first = first_free;
   }
 
-  pub tried_found : (j : ℕ) (r : Pairing) → Augmented (wants rows) p (at s.queue 0) j r → Visited rows ws p u r
+  pub tried_found : (j : ℕ) (r : Pairing) → Augmented (wants rows) p (port_at s 0) j r → Visited rows ws p u r
   tried_found j r a = record {
     paired = a.paired;
     used = a.used;
     went = inl (omega (arith, loss_augmented _ (at ws) _ _ j _ (h.stage.trail.within 0 h.stage.some) first_free a));
   }
 
-  module _ (nf : 32 ≤ s.found) (k : ℕ) (lk : Lightest (at ws) (at s.queue) s.len k) (x a b : ℕ) (ex : x ≡ at s.queue k) (ea : a ≡ at ws x) (eb : b ≡ at ws u) where
-    light : a ≡ at ws (at s.queue k)
+  module _ (nf : s.found ≡ None) (k : ℕ) (lk : Lightest (at ws) (port_at s) s.len k) (x a b : ℕ) (ex : x ≡ port_at s k) (ea : a ≡ at ws x) (eb : b ≡ at ws u) where
+    light : a ≡ at ws (port_at s k)
     light = ea ∙ ap (at ws) ex
 
-    pub giving_at : a < b → Giving (wants rows) p (at s.queue) (at s.from) k
+    pub giving_at : a < b → Giving (wants rows) p (port_at s) (finder_at s) k
     giving_at l = record {
       paired = pp;
       trail = trail_to k lk.inside;
       room = omega (arith, lk.inside, stage_room h.stage);
       later = elim (ℕ_discrete k 0) [
-        | yes z ↦ absurd (omega (arith, light, ap (λ (y : ℕ). at ws (at s.queue y)) z, ap (at ws) h.root))
+        | yes z ↦ absurd (omega (arith, light, ap (λ (y : ℕ). at ws (port_at s y)) z, ap (at ws) h.root))
         | no d ↦ omega (arith, d)
       ];
       first = first_free;
     }
 
-    pub tried_exchange : a < b → (r : Pairing) → Exchanged (wants rows) p (at s.queue 0) (at s.queue k) r → Visited rows ws p u r
+    pub tried_exchange : a < b → (r : Pairing) → Exchanged (wants rows) p (port_at s 0) (port_at s k) r → Visited rows ws p u r
     tried_exchange l r e = record {
       paired = e.paired;
       used = e.used;

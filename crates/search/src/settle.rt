@@ -1,124 +1,112 @@
 // One side settled: each of mine without a partner is tried until nothing changes any more. Then each that is left out has a closed set:
 // no other match has heavier ones of mine.
-ghost use Rattle.std.specs.Prelude.{◌≡◌, true, false, ℕ, ◌<◌, ◌≤◌};
-ghost use Rattle.masks.specs.Paper.{bit};
+ghost use Rattle.std.specs.Prelude.{◌≡◌, true, false, ◌<◌, ◌≤◌};
 ghost use Rattle.matches.specs.Paper.{at};
 ghost use Rattle.search.specs.Pair.{Paired};
 ghost use Rattle.search.specs.Stage.{wants};
-ghost use Rattle.search.specs.Augment.{any};
-ghost use Rattle.search.specs.Exchange.{Giving, Exchanged};
+ghost use Rattle.search.specs.Reach.{port_at};
 ghost use Rattle.search.specs.Settle.{Lighter, Lightest, Queue, Visited, Swept, Settled, Outside};
 
 use super::pairing::Pairing;
 use super::reach::Search;
-use super::{pairing, reach};
 
-// The one at h of the queue gives its place to the first.
-fn exchange(p: Pairing, s: Search, h: u32) -> Pairing
-    requires { Giving any p (at s.queue) (at s.from) h }
-    ensures { (E : ℕ → ℕ → ℕ) → Giving E p (at s.queue) (at s.from) h → Exchanged E p (at s.queue 0) (at s.queue h) result }
-{
-    let queue = s.queue;
-    let from = s.from;
-    let mine = p.mine;
-    let x = pairing::get(queue, h);
-    let out = pairing::get(mine, x);
-    let last = pairing::get(from, h);
-    reach::augment(pairing::unlink(p, x), s, last, out)
+// What each of mine requests and weighs, as it was handed over, and the set of those that request something.
+#[derive(Clone, Copy)]
+pub struct Side {
+    pub rows: [u32; 32],
+    pub weights: [u32; 32],
+    pub asking: u32,
 }
 
-// Whether x weighs less than y.
-fn less(weights: [u32; 32], x: u32, y: u32) -> bool
-    requires { (x < 32) × (y < 32) }
-    ensures { (result ≡ true → at weights x < at weights y) × (result ≡ false → at weights y ≤ at weights x) }
-{
-    pairing::word(&weights, x) < pairing::word(&weights, y)
-}
-
-fn lighter(weights: [u32; 32], queue: [u8; 32], a: u32, b: u32) -> u32
-    requires { (a < 32) × (b < 32) × (at queue a < 32) × (at queue b < 32) }
-    ensures { Lighter (at weights) (at queue) a b result }
-{
-    let x = pairing::get(queue, a);
-    let y = pairing::get(queue, b);
-    if less(weights, y, x) { b } else { a }
-}
-
-// The place in the queue of one that weighs least.
-fn lightest(weights: [u32; 32], queue: [u8; 32], len: u32) -> u32
-    requires { Queue (at queue) len }
-    ensures { Lightest (at weights) (at queue) len result }
-{
-    let mut best: u32 = 0;
-    let mut k: u32 = 1;
-    while k < len {
-        best = lighter(weights, queue, best, k);
-        k += 1;
+// `Paired` stands in the contracts: it ties the pairing, which changes, to the rows. A value of both would have to say at each step that the rows stay.
+impl Side {
+    // Whether x weighs less than y.
+    fn less(&self, x: u32, y: u32) -> bool
+        requires { (x < 32) × (y < 32) }
+        ensures { (result ≡ true → at self.now.weights x < at self.now.weights y) × (result ≡ false → at self.now.weights y ≤ at self.now.weights x) }
+    {
+        self.weights[x as usize] < self.weights[y as usize]
     }
-    best
-}
 
-// A place for u, which has none: a free one, or that of one that weighs less.
-fn attempt(rows: [u32; 32], weights: [u32; 32], p: Pairing, u: u32) -> Pairing
-    requires paired { Paired (wants rows) p }
-    requires unmatched { (u < 32) × (32 ≤ at p.mine u) }
-    ensures { Visited rows weights p u result }
-{
-    let s = reach::reach(rows, p, u);
-    if s.found < 32 {
-        return reach::augment(p, s, s.at, s.found);
+    // Of two places in the queue, one with the less weight.
+    fn lighter(&self, s: &Search, a: u32, b: u32) -> u32
+        requires { (a < 32) × (b < 32) × (port_at s.now a < 32) × (port_at s.now b < 32) }
+        ensures { Lighter (at self.now.weights) (port_at s.now) a b result }
+    {
+        if self.less(s.queued(b), s.queued(a)) {
+            b
+        } else {
+            a
+        }
     }
-    let queue = s.queue;
-    let h = lightest(weights, queue, s.len);
-    let x = pairing::get(queue, h);
-    if less(weights, x, u) {
-        return exchange(p, s, h);
-    }
-    p
-}
 
-// u is tried if it has no partner.
-fn visit(rows: [u32; 32], weights: [u32; 32], p: Pairing, u: u32) -> Pairing
-    requires paired { Paired (wants rows) p }
-    requires port { u < 32 }
-    ensures { Visited rows weights p u result }
-{
-    let mine = p.mine;
-    if pairing::get(mine, u) < 32 {
-        return p;
+    // The place in the queue of one that weighs least.
+    fn lightest(&self, s: &Search) -> u32
+        requires { Queue (port_at s.now) s.now.len }
+        ensures { Lightest (at self.now.weights) (port_at s.now) s.now.len result }
+    {
+        // The place is wanted, and the queue is never empty: `min_by_key` would answer an `Option`.
+        let mut best = 0;
+        for k in 1..s.len {
+            best = self.lighter(s, best, k);
+        }
+        best
     }
-    attempt(rows, weights, p, u)
-}
 
-// Each of mine that asks and has no partner is tried once.
-fn sweep(rows: [u32; 32], weights: [u32; 32], p: Pairing, asking: u32) -> Pairing
-    requires paired { Paired (wants rows) p }
-    requires outside { Outside rows asking }
-    ensures { Swept rows weights p result }
-{
-    let mut q = p;
-    let mut left = masks::both(p.idle, asking);
-    while left != 0 {
-        let u = masks::first(left);
-        q = visit(rows, weights, q, u);
-        left = masks::without(left, u);
+    // A place for u, which has none: a free one, or that of one that weighs less.
+    fn attempt(&self, p: &mut Pairing, u: u32)
+        requires paired { Paired (wants self.now.rows) p.old }
+        requires unmatched { (u < 32) × (32 ≤ at p.old.mine u) }
+        ensures { Visited self.now.rows self.now.weights p.old u p.new }
+    {
+        let s = Search::reach(&self.rows, p, u);
+        if let Some(out) = s.found {
+            s.augment(p, s.at, out);
+            return;
+        }
+        let h = self.lightest(&s);
+        let x = s.queued(h);
+        if self.less(x, u) {
+            s.exchange(p, h);
+        }
     }
-    q
-}
 
-// Sweeps, until one leaves the same ones idle: each change makes the idle ones weigh less, so that sweep changed nothing.
-#[tactic(auto, using(crate::specs::Settle::come_end, crate::specs::Settle::come_less, crate::specs::Settle::come_more))]
-pub fn settle(rows: [u32; 32], weights: [u32; 32], p: Pairing, asking: u32) -> Pairing
-    requires paired { Paired (wants rows) p }
-    requires outside { Outside rows asking }
-    ensures { Settled rows weights p result }
-{
-    let mut q = p;
-    loop {
-        let idle = q.idle;
-        q = sweep(rows, weights, q, asking);
-        if q.idle == idle {
-            return q;
+    // u is tried if it has no partner.
+    fn visit(&self, p: &mut Pairing, u: u32)
+        requires paired { Paired (wants self.now.rows) p.old }
+        requires port { u < 32 }
+        ensures { Visited self.now.rows self.now.weights p.old u p.new }
+    {
+        if 32 <= p.partner(u) {
+            self.attempt(p, u);
+        }
+    }
+
+    // Each of mine that asks and has no partner is tried once.
+    fn sweep(&self, p: &mut Pairing)
+        requires paired { Paired (wants self.now.rows) p.old }
+        requires outside { Outside self.now.rows self.now.asking }
+        ensures { Swept self.now.rows self.now.weights p.old p.new }
+    {
+        for u in masks::ports(masks::both(p.idle, self.asking)) {
+            self.visit(p, u);
+        }
+    }
+
+    // Sweeps, until one leaves the same ones idle: each change makes the idle ones weigh less, so that sweep changed nothing.
+    #[tactic(auto, using(crate::specs::Settle::come_end, crate::specs::Settle::come_less, crate::specs::Settle::come_more))]
+    pub fn settle(&self, p: Pairing) -> Pairing
+        requires paired { Paired (wants self.now.rows) p }
+        requires outside { Outside self.now.rows self.now.asking }
+        ensures { Settled self.now.rows self.now.weights p result }
+    {
+        let mut q = p;
+        loop {
+            let idle = q.idle;
+            self.sweep(&mut q);
+            if q.idle == idle {
+                return q;
+            }
         }
     }
 }

@@ -1,23 +1,22 @@
 -- The answers of the fresh card and of the slot, and what the steps of a slot hand on, as document 01's. Assumes nothing.
-use Rattle.std.specs.Prelude.{ℕ, List}
-use Rattle.card.specs.declared.Card.{Card}
-use Rattle.card.specs.Paper.{number_of}
+use Rattle.std.specs.Prelude.{ℕ, List, Option, Some, None, Result, Ok, Err, slice_set}
+use Rattle.card.specs.Paper.{refusal_number, number_of}
 use Rattle.search.specs.First.{numbers}
-use Rattle.card.specs.declared.Counters.{Counters}
 use Rattle.slot.specs.declared.Record.{Record}
 use Rattle.slot.specs.declared.Report.{Report}
-use Rattle.slot.specs.declared.Made.{Made}
+use Rattle.card.specs.declared.Refusal.{Refusal}
 use Rattle.slot.specs.declared.Stepped.{Stepped}
-use Rattle.slot.specs.declared.arriving.Taken.{Taken}
-use Rattle.slot.specs.declared.sending.Gone.{Gone}
-use Rattle.slot.specs.Paper.{State, Taking, Leaving}
+use Rattle.queue.specs.declared.Sent.{Sent}
+use Rattle.slot.specs.Paper.{State, Taking, Leaving, blank, silent}
 use Rattle.slot.specs.Paper as paper
 
 abbrev pub state_of : Record → List ℕ → List ℕ → State
 state_of r cells stamps = record { kept = r; cells = cells; stamps = stamps }
 
-abbrev pub made_of : Made → List ℕ → List ℕ → paper.Made
-made_of r cells stamps = record { refusal = number_of r.verdict; state = state_of r.record cells stamps }
+-- a refused fresh card is a record of zeros
+abbrev pub made_of : Result Record Refusal → List ℕ → List ℕ → paper.Made
+made_of (Ok r) cells stamps = record { refusal = 0; state = state_of r cells stamps }
+made_of (Err e) cells stamps = record { refusal = refusal_number e; state = state_of (blank (record { m = 0; n = 0; d = 0 })) cells stamps }
 
 abbrev pub report_of : Report → paper.Report
 report_of r =
@@ -30,19 +29,29 @@ report_of r =
       dropped = r.dropped;
     }
 
+-- a refused slot's report has nothing sent
+abbrev pub reported : Result Report Refusal → paper.Report
+reported (Ok r) = report_of r
+reported (Err e) = silent
+
 abbrev pub stepped_of : Stepped → List ℕ → List ℕ → paper.Stepped
 stepped_of r cells stamps =
-    record { refusal = number_of r.verdict; state = state_of r.record cells stamps; report = report_of r.report }
+    record { refusal = number_of r.outcome; state = state_of r.record cells stamps; report = reported r.outcome }
 
--- in the middle of a slot the record is in parts
-abbrev pub parts_of : Card → (slot : ℕ) → Counters → (heads counts cells stamps : List ℕ) → State
-parts_of card slot counters heads counts cells stamps =
-    state_of (record { card = card; heads = heads; counts = counts; slot = slot; counters = counters }) cells stamps
+-- the record and the report of an accepted slot
+abbrev pub accepted_of : Record → Report → List ℕ → List ℕ → paper.Stepped
+accepted_of r report cells stamps = record { refusal = 0; state = state_of r cells stamps; report = report_of report }
 
-abbrev pub taking_of : Card → (slot : ℕ) → Taken → (heads counts cells stamps : List ℕ) → Taking
-taking_of card slot t heads counts cells stamps =
-    record { state = parts_of card slot t.counters heads counts cells stamps; dropped = t.dropped }
+-- in the middle of a slot: the record, and the inputs whose arrival was dropped
+abbrev pub taking_of : Record → (dropped : ℕ) → List ℕ → List ℕ → Taking
+taking_of r dropped cells stamps = record { state = state_of r cells stamps; dropped = dropped }
 
-abbrev pub leaving_of : Card → (slot : ℕ) → Gone → (heads counts cells stamps : List ℕ) → Leaving
-leaving_of card slot g heads counts cells stamps =
-    record { state = parts_of card slot g.counters heads counts cells stamps; cells = g.cells; waits = g.waits }
+-- the record, and the report so far
+abbrev pub leaving_of : Record → Report → List ℕ → List ℕ → Leaving
+leaving_of r report cells stamps = record { state = state_of r cells stamps; cells = report.cells; waits = report.waits }
+
+-- the record, and what has been reported with what input i sent
+abbrev pub sending_of : (i : ℕ) → Option Sent → Record → (cells stamps told waits : List ℕ) → Leaving
+sending_of i None r cells stamps told waits = record { state = state_of r cells stamps; cells = told; waits = waits }
+sending_of i (Some x) r cells stamps told waits =
+    record { state = state_of r cells stamps; cells = slice_set told i x.cell; waits = slice_set waits i x.wait }

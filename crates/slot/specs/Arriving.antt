@@ -11,9 +11,9 @@ use Rattle.queue.specs.declared.Queue.{Queue}
 use Rattle.queue.specs.Paper.{Ring, ring_of, stored, store}
 use Rattle.queue.specs.Steps.{store_room}
 use Rattle.matches.specs.Paper.{at}
-use Rattle.slot.specs.declared.arriving.Taken.{Taken}
+use Rattle.slot.specs.declared.Record.{Record}
 use Rattle.slot.specs.Paper.{State, Taking, queue_at, with_queue, counting, take_in, take_one, take_all, begun}
-use Rattle.slot.specs.Answers.{parts_of, taking_of}
+use Rattle.slot.specs.Answers.{state_of, taking_of}
 use Rattle.slot.specs.Stretch.{index_in}
 use Rattle.slot.specs.Ready.{Ready, used, sound, stands, stored_sound, ready_with, ready_counting, put_back, count_at, with_card, with_slot}
 
@@ -41,35 +41,35 @@ pub record Into (t : Taking) (i k : ℕ) : Type 0 where
   pub here : k < used t.state
   pub low : t.dropped < 2 ^ i
 
-module _ (card : Card) (slot : ℕ) (t : Taken) (heads counts cells stamps : List ℕ) where
-  pub in_full : (i k cell : ℕ) (r : Taken) → card.d ≤ at counts k → r.counters ≡ one_dropped t.counters → r.dropped ≡ t.dropped + 2 ^ i
-      → taking_of card slot r heads counts cells stamps ≡ take_in i k cell (taking_of card slot t heads counts cells stamps)
+module _ (r : Record) (cells stamps : List ℕ) where
+  pub in_full : (i k cell d : ℕ) → r.card.d ≤ at r.counts k
+      → taking_of (record r { counters = one_dropped r.counters }) (d + 2 ^ i) cells stamps ≡ take_in i k cell (taking_of r d cells stamps)
   unfolding take_in
-  in_full i k cell r h e d = rw (le-ltb (at counts k) card.d h, e, d)
+  in_full i k cell d h = rw (le-ltb (at r.counts k) r.card.d h)
 
   -- w is D, as the code has it
-  pub in_room : (i k cell w : ℕ) (next : Queue) (cs ss : List ℕ) (r : Taken)
-      → Into (taking_of card slot t heads counts cells stamps) i k → at counts k < card.d → w ≡ card.d
-      → ring_of next cs ss ≡ store cell slot (ring_of (record { head = at heads k; count = at counts k }) (mid_of (k * card.d) w cells) (mid_of (k * card.d) w stamps))
-      → r.counters ≡ one_stored t.counters → r.dropped ≡ t.dropped
-      → taking_of card slot r heads (slice_set counts k next.count) (put_mid (k * card.d) w cells cs) (put_mid (k * card.d) w stamps ss)
-      ≡ take_in i k cell (taking_of card slot t heads counts cells stamps)
+  pub in_room : (i k cell d w : ℕ) (next : Queue) (cs ss : List ℕ)
+      → Into (begun (state_of r cells stamps)) i k → at r.counts k < r.card.d → w ≡ r.card.d
+      → ring_of next cs ss ≡ store cell r.slot (ring_of (record { head = at r.heads k; count = at r.counts k }) (mid_of (k * r.card.d) w cells) (mid_of (k * r.card.d) w stamps))
+      → taking_of (record r { counts = slice_set r.counts k next.count; counters = one_stored r.counters }) d (put_mid (k * r.card.d) w cells cs) (put_mid (k * r.card.d) w stamps ss)
+      ≡ take_in i k cell (taking_of r d cells stamps)
   unfolding take_in queue_at
-  in_room i k cell w next cs ss r g l e h ec ed =
-      rw (lt-ltb (at counts k) card.d l, e, ec, ed)
-      (ap (λ (x : State). record { state = counting one_stored x; dropped = t.dropped }) (same_heads ∙ put_back s k (ring_of next cs ss) (stored cell slot (queue_at s k)) same))
+  in_room i k cell d w next cs ss g l e h =
+      rw (lt-ltb (at r.counts k) r.card.d l, e)
+      (ap (λ (x : State). record { state = counting one_stored x; dropped = d }) (same_heads ∙ put_back s k (ring_of next cs ss) (stored cell r.slot (queue_at s k)) same))
     where
       s : State
-      s = parts_of card slot t.counters heads counts cells stamps
+      s = state_of r cells stamps
 
-      same : ring_of next cs ss ≡ stored cell slot (queue_at s k)
-      same = (rw e at h) ∙ sym (store_room cell slot (queue_at s k) (stands s g.ready (queue_at s k) (sound s g.ready k g.here)) (rw (sound s g.ready k g.here).cells_deep l))
+      same : ring_of next cs ss ≡ stored cell r.slot (queue_at s k)
+      same = (rw e at h) ∙ sym (store_room cell r.slot (queue_at s k) (stands s g.ready (queue_at s k) (sound s g.ready k g.here)) (rw (sound s g.ready k g.here).cells_deep l))
 
-      same_heads : parts_of card slot t.counters heads (slice_set counts k next.count) (put_mid (k * card.d) card.d cells cs) (put_mid (k * card.d) card.d stamps ss)
-          ≡ parts_of card slot t.counters (slice_set heads k next.head) (slice_set counts k next.count) (put_mid (k * card.d) card.d cells cs) (put_mid (k * card.d) card.d stamps ss)
-      same_heads =
-          ap (λ (x : List ℕ). parts_of card slot t.counters x (slice_set counts k next.count) (put_mid (k * card.d) card.d cells cs) (put_mid (k * card.d) card.d stamps ss))
-          (sym (ap (slice_set heads k) (ap (λ (q : Ring). q.head) same) ∙ set-get_or heads k 0))
+      put : List ℕ → State
+      put heads =
+          state_of (record r { heads = heads; counts = slice_set r.counts k next.count }) (put_mid (k * r.card.d) r.card.d cells cs) (put_mid (k * r.card.d) r.card.d stamps ss)
+
+      same_heads : put r.heads ≡ put (slice_set r.heads k next.head)
+      same_heads = ap put (sym (ap (slice_set r.heads k) (ap (λ (q : Ring). q.head) same) ∙ set-get_or r.heads k 0))
 
 -- ---- input i's arrival
 

@@ -1,19 +1,21 @@
 -- The departures of a slot: each way out of a step as a law about the definition, and what a step keeps. Assumes nothing.
-use Rattle.std.specs.Prelude.{◌≡◌, ℕ, zero, suc, ◌+◌, ◌*◌, ◌<◌, ◌≤◌, ◌⊎◌, List, [], ◌∷◌, length, ◌≢◌, slice_index_or, slice_set, refl}
-use Rattle.std.proofs.Common.{sym, ◌∙◌, inl, inr, ⊎_elim, le_of_suc-le-suc, add-one, arith, get_or-set_other, eq-eqb, ne_eqb}
+use Rattle.std.specs.Prelude.{◌≡◌, ℕ, zero, suc, true, ◌&&◌, nat_lt, ◌+◌, ◌*◌, ◌<◌, ◌≤◌, ◌⊎◌, ◌↔◌, Option, Some, None, IsSome, IsTrue, List, [], ◌∷◌, length, ◌≢◌, slice_index_or, slice_set, refl}
+use Rattle.std.proofs.Common.{sym, ◌∙◌, inl, inr, ⊎_elim, le_of_suc-le-suc, add-one, arith, get_or-set_other, lt-ltb, eq-eqb, ne_eqb}
+use Rattle.masks.specs.Tests.{and_true}
 use Rattle.std.proofs.Math.Path.{ap}
 use borrow.Rule.Slice.PartMut.{mid_of, put_mid}
 use Rattle.card.specs.declared.Card.{Card}
 use Rattle.card.specs.declared.Out.{Out}
 use Rattle.card.specs.Paper.{ports, none, out, index, one_departed}
 use Rattle.queue.specs.declared.Sent.{Sent}
-use Rattle.queue.specs.Paper.{Ring, Sending, ring_of, sent_of, sent, oldest, oldest_stamp, wait_of, send}
+use Rattle.queue.specs.Paper.{Ring, Sending, ring_of, standing, sent_of, sent, oldest, oldest_stamp, wait_of, send}
 use Rattle.queue.specs.Steps.{send_oldest}
 use Rattle.matches.specs.Paper.{at, partner}
 use Rattle.search.specs.First.{numbers}
-use Rattle.slot.specs.declared.sending.Gone.{Gone}
+use Rattle.queue.specs.declared.Queue.{Queue}
+use Rattle.slot.specs.declared.Record.{Record}
 use Rattle.slot.specs.Paper.{State, Leaving, queue_at, with_queue, counting, send_from, send_one, send_all, unsent}
-use Rattle.slot.specs.Answers.{parts_of, leaving_of}
+use Rattle.slot.specs.Answers.{state_of, sending_of}
 use Rattle.slot.specs.Stretch.{index_in}
 use Rattle.slot.specs.Ready.{Ready, used, sound, stands, sent_sound, ready_with, ready_counting, put_back, with_card, with_slot}
 
@@ -41,28 +43,37 @@ pub record From (l : Leaving) (i k : ℕ) : Type 0 where
   pub here : k < used l.state
   pub some : 0 < at l.state.kept.counts k
 
-module _ (card : Card) (slot : ℕ) (g : Gone) (heads counts cells stamps : List ℕ) where
+module _ (r : Record) (cells stamps : List ℕ) where
   -- w is D, as the code has it
-  pub from_sent : (i k w : ℕ) (r : Sent) (cs ss : List ℕ) (g' : Gone)
-      → From (leaving_of card slot g heads counts cells stamps) i k → w ≡ card.d
-      → sent_of r cs ss ≡ send slot (ring_of (record { head = at heads k; count = at counts k }) (mid_of (k * card.d) w cells) (mid_of (k * card.d) w stamps))
-      → g'.counters ≡ one_departed g.counters → g'.cells ≡ slice_set g.cells i r.cell → g'.waits ≡ slice_set g.waits i r.wait
-      → leaving_of card slot g' (slice_set heads k r.queue.head) (slice_set counts k r.queue.count) (put_mid (k * card.d) w cells cs) (put_mid (k * card.d) w stamps ss)
-      ≡ send_from i k (leaving_of card slot g heads counts cells stamps)
+  pub from_sent : (i k w : ℕ) (x : Option Sent) (next : Queue) (cs ss told waits : List ℕ)
+      → From (unsent (state_of r cells stamps)) i k → w ≡ r.card.d
+      → (IsSome x ↔ IsTrue (standing (ring_of (record { head = at r.heads k; count = at r.counts k }) (mid_of (k * r.card.d) w cells) (mid_of (k * r.card.d) w stamps)) && nat_lt 0 (at r.counts k)))
+      → sent_of x next cs ss ≡ send r.slot (ring_of (record { head = at r.heads k; count = at r.counts k }) (mid_of (k * r.card.d) w cells) (mid_of (k * r.card.d) w stamps))
+      → sending_of i x (record r { heads = slice_set r.heads k next.head; counts = slice_set r.counts k next.count; counters = one_departed r.counters })
+      (put_mid (k * r.card.d) w cells cs) (put_mid (k * r.card.d) w stamps ss) told waits
+      ≡ send_from i k (record { state = state_of r cells stamps; cells = told; waits = waits })
   unfolding send_from queue_at
-  from_sent i k w r cs ss g' f e h ec el ew =
-      rw (e, ec, el, ew, ap (λ (x : Sending). x.cell) same, ap (λ (x : Sending). x.wait) same)
-      (ap (λ (x : State). record { state = counting one_departed x; cells = slice_set g.cells i (oldest q); waits = slice_set g.waits i (wait_of slot (oldest_stamp q)) })
-      (put_back s k (ring_of r.queue cs ss) (sent q) (ap (λ (x : Sending). x.ring) same)))
+  from_sent i k w x next cs ss told waits f e some h =
+      rw e (go x (some.1 (rw e (and_true up (lt-ltb 0 (at r.counts k) f.some)))) ((rw e at h) ∙ sym (send_oldest r.slot q up f.some)))
     where
       s : State
-      s = parts_of card slot g.counters heads counts cells stamps
+      s = state_of r cells stamps
 
       q : Ring
       q = queue_at s k
 
-      same : sent_of r cs ss ≡ record { ring = sent q; cell = oldest q; wait = wait_of slot (oldest_stamp q) }
-      same = (rw e at h) ∙ sym (send_oldest slot q (stands s f.ready q (sound s f.ready k f.here)) f.some)
+      up : standing q ≡ true
+      up = stands s f.ready q (sound s f.ready k f.here)
+
+      go : (x : Option Sent) → IsSome x → sent_of x next cs ss ≡ record { ring = sent q; cell = oldest q; wait = wait_of r.slot (oldest_stamp q) }
+          → sending_of i x (record r { heads = slice_set r.heads k next.head; counts = slice_set r.counts k next.count; counters = one_departed r.counters })
+          (put_mid (k * r.card.d) r.card.d cells cs) (put_mid (k * r.card.d) r.card.d stamps ss) told waits
+          ≡ send_from i k (record { state = state_of r cells stamps; cells = told; waits = waits })
+      go None n same = cc
+      go (Some x) n same =
+          rw (ap (λ (y : Sending). y.cell) same, ap (λ (y : Sending). y.wait) same)
+          (ap (λ (y : State). record { state = counting one_departed y; cells = slice_set told i (oldest q); waits = slice_set waits i (wait_of r.slot (oldest_stamp q)) })
+          (put_back s k (ring_of next cs ss) (sent q) (ap (λ (y : Sending). y.ring) same)))
 
 -- ---- input i sends
 

@@ -16,6 +16,10 @@ use Rattle.matches.specs.Paper.{tab}
 use Rattle.matches.proofs.Lists.{get_or_tab, tab_cong}
 use Rattle.slotlog.specs.Paper.{arrivals_of}
 
+-- each answer to the numbers below m is an output of f and a cell of g
+abbrev pub Gives : (ℕ → ℕ × ℕ → Type 0) → (m : ℕ) → (f g : ℕ → ℕ) → Type 0
+Gives answers m f g = (i : ℕ) (arrival : ℕ × ℕ) → i < m → answers i arrival → (arrival.0 ≡ f i) × (arrival.1 ≡ g i)
+
 -- the arrivals, with an output and a cell at input i
 abbrev pub arrived : (i output cell : ℕ) → Arrivals → Arrivals
 arrived i output cell a = record { outputs = set a.outputs i (out output); cells = set a.cells i cell }

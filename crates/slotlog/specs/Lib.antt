@@ -17,5 +17,6 @@ pub mod Given
 pub mod WriteRefusals
 pub mod Writing
 pub mod Answers
+pub mod Writer
 pub mod Sound
 pub mod RoundTrip

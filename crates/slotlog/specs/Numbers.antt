@@ -1,9 +1,10 @@
 -- Numbers in a log: two and four bytes as the code takes them; what is written in n bytes is read back, and what is read from n bytes is written as
 -- these bytes. Assumes nothing.
-use Rattle.std.specs.Prelude.{◌≡◌, refl, List, ◌∷◌, ◌++◌, ℕ, zero, suc, ◌+◌, ◌*◌, ◌/◌, ◌%◌, ◌^◌, ◌≤◌, ◌<◌, length, take, drop}
-use Rattle.std.proofs.Common.{sym, ap, ap₂, ◌∙◌, mod-eq_of_lt, pow-suc, arith, lit<}
+use Rattle.std.specs.Prelude.{◌≡◌, refl, List, ◌∷◌, ℕ, zero, suc, ◌+◌, ◌*◌, ◌/◌, ◌%◌, ◌^◌, ◌≤◌, ◌<◌, length, take, drop}
+use Rattle.std.proofs.Common.{sym, ap, ap₂, ◌∙◌, mod-eq_of_lt, pow-suc, arith, lit<, get_or-take, get_or-drop, slice_index}
 use Rattle.std.proofs.Math.Nat.{mod-one, one-le-pow}
 use Rattle.std.proofs.Math.Arith.{mod-mul}
+use Rattle.std.specs.Int.{w16, w32, from_le_bytes, to_le_bytes}
 use Rattle.matches.specs.Paper.{at}
 use Rattle.slotlog.specs.Paper.{number, bytes}
 use Rattle.slotlog.specs.Parts.{Stands, stands_head, stands_tail, part_cons}
@@ -13,32 +14,38 @@ unfolding bytes
 length_bytes zero x = refl
 length_bytes (suc n) x = ap suc (length_bytes n (x / 256))
 
--- ---- two and four bytes
+-- ---- two and four bytes, as std takes them from a list and makes them of a number
 
--- a byte, and 256 times the next
-pub number_two : (log : List ℕ) (p : ℕ) → at log p + 256 * at log (p + 1) ≡ number 2 log p
+-- byte i of the n bytes from place p on
+byte : (bs log : List ℕ) (n p i q : ℕ) → bs ≡ take n (drop p log) → i < n → q ≡ p + i → slice_index bs i ≡ at log q
+byte bs log n p i q e l h = ap (λ (b : List ℕ). slice_index b i) e ∙ get_or-take n (drop p log) i 0 l ∙ get_or-drop p log i 0 ∙ ap (at log) (sym h)
+
+pub read_two : (bs log : List ℕ) (p : ℕ) → bs ≡ take 2 (drop p log) → from_le_bytes w16 bs ≡ number 2 log p
 unfolding number
-number_two log p =
-    let e : p + 1 ≡ suc p = omega arith in
-    omega (arith, ap (at log) e)
+read_two bs log p e =
+    let b₀ = byte bs log 2 p 0 p e (lit< tt) (omega arith) in
+    let b₁ = byte bs log 2 p 1 (suc p) e (lit< tt) (omega arith) in
+    omega (arith, b₀, b₁)
 
--- two bytes, and 65536 times the next two
-pub number_four : (log : List ℕ) (p : ℕ) → number 2 log p + 65536 * number 2 log (p + 2) ≡ number 4 log p
+pub read_four : (bs log : List ℕ) (p : ℕ) → bs ≡ take 4 (drop p log) → from_le_bytes w32 bs ≡ number 4 log p
 unfolding number
-number_four log p =
-    let e : p + 2 ≡ suc (suc p) = omega arith in
-    let f : suc (p + 2) ≡ suc (suc (suc p)) = omega arith in
-    omega (arith, ap (at log) e, ap (at log) f)
+read_four bs log p e =
+    let b₀ = byte bs log 4 p 0 p e (lit< tt) (omega arith) in
+    let b₁ = byte bs log 4 p 1 (suc p) e (lit< tt) (omega arith) in
+    let b₂ = byte bs log 4 p 2 (suc (suc p)) e (lit< tt) (omega arith) in
+    let b₃ = byte bs log 4 p 3 (suc (suc (suc p))) e (lit< tt) (omega arith) in
+    omega (arith, b₀, b₁, b₂, b₃)
 
--- four bytes are twice two
-pub bytes_four : (x : ℕ) → bytes 2 (x % 65536) ++ bytes 2 (x / 65536) ≡ bytes 4 x
+pub two_bytes : (x : ℕ) → to_le_bytes w16 x ≡ bytes 2 x
 unfolding bytes
-bytes_four x =
-    let a : x % 65536 % 256 ≡ x % 256 = omega arith in
-    let c : x / 65536 ≡ x / 256 / 256 = omega arith in
-    let d : x % 65536 / 256 ≡ x / 256 % 256 = omega arith in
-    let b : x % 65536 / 256 % 256 ≡ x / 256 % 256 = omega arith in
-    rw (a, b, c)
+two_bytes x = refl
+
+pub four_bytes : (x : ℕ) → to_le_bytes w32 x ≡ bytes 4 x
+unfolding bytes
+four_bytes x =
+    let b₂ : x / 65536 ≡ x / 256 / 256 = omega arith in
+    let b₃ : x / 16777216 ≡ x / 256 / 256 / 256 = omega arith in
+    rw (b₂, b₃)
 
 -- ---- written, then read
 

@@ -1,6 +1,6 @@
 -- Parts of a list: what stands at a place of it, and a list put together again from its parts. Assumes nothing.
-use Rattle.std.specs.Prelude.{◌≡◌, List, [], ◌∷◌, ◌++◌, ℕ, suc, ◌+◌, ◌<◌, length, take, drop}
-use Rattle.std.proofs.Common.{sym, ap, ◌∙◌, append_assoc, append-nil, add-zero, zero-lt-suc, add-one, drop-drop, drop_at, drop-cons, get_or-drop, take-add}
+use Rattle.std.specs.Prelude.{◌≡◌, List, [], ◌∷◌, ◌++◌, ℕ, suc, ◌+◌, ◌≤◌, ◌<◌, length, take, drop}
+use Rattle.std.proofs.Common.{sym, ap, get_or, ◌-◌, arith, length-drop, ◌∙◌, append_assoc, append-nil, add-zero, zero-lt-suc, add-one, drop-drop, drop_at, drop-cons, get_or-drop, take-add}
 use Rattle.std.proofs.Math.ListN.{get_or-append}
 use Rattle.matches.specs.Paper.{at}
 
@@ -40,3 +40,16 @@ part_cons log p n h = ap (take (suc n)) (drop-cons log p 0 h)
 
 pub part_join : (log : List ℕ) (p n m : ℕ) → take n (drop p log) ++ take m (drop (p + n) log) ≡ take (n + m) (drop p log)
 part_join log p n m = ap (λ (r : List ℕ). take n (drop p log) ++ take m r) (sym (drop-drop n p log)) ∙ sym (take-add n m (drop p log))
+
+-- ---- what an iterator over a list has left
+
+pub left_next : {A : Type 0} (xs : List A) (n : ℕ) (x d : A) (rest : List A) → drop n xs ≡ x ∷ rest → (n < length xs) × (x ≡ get_or xs n d) × (rest ≡ drop (n + 1) xs)
+left_next xs n x d rest e =
+    let more : length xs - n ≡ suc (length rest) = sym (length-drop n xs) ∙ ap length e in (
+      omega (arith, more),
+      sym (ap (λ (l : List _). get_or l 0 d) e) ∙ get_or-drop n xs 0 d ∙ ap (λ (k : ℕ). get_or xs k d) (add-zero n),
+      sym (ap (drop 1) e) ∙ drop-drop 1 n xs,
+    )
+
+pub left_none : {A : Type 0} (xs : List A) (n : ℕ) (rest : List A) → rest ≡ drop n xs → length rest ≡ 0 → length xs ≤ n
+left_none xs n rest e z = omega (arith, length-drop n xs, ap length e, z)

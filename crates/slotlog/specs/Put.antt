@@ -1,7 +1,8 @@
 -- Bytes put one after another into a buffer. Assumes nothing.
-use Rattle.std.specs.Prelude.{◌≡◌, refl, List, [], ◌∷◌, ◌++◌, ℕ, suc, ◌+◌, ◌*◌, ◌/◌, ◌%◌, ◌≤◌, ◌<◌, length, set, drop}
-use Rattle.std.proofs.Common.{sym, ap, ap₂, ◌∙◌, add-zero, zero-add, add-one, arith}
+use Rattle.std.specs.Prelude.{◌≡◌, refl, List, [], ◌∷◌, ◌++◌, ℕ, suc, ◌+◌, ◌*◌, ◌≤◌, length, set, drop}
+use Rattle.std.proofs.Common.{sym, ap, ◌∙◌, add-zero, zero-add, arith, append_assoc, drop-drop, take}
 use Rattle.std.proofs.lemmas.List.Edits.{sets, sets-eq}
+use borrow.Rule.Slice.PartMut.{put_mid}
 use Rattle.slotlog.specs.Paper.{bytes, joined, trailer_bytes}
 use Rattle.slotlog.specs.Joined.{length_joined, joined_step}
 
@@ -16,6 +17,9 @@ sets_append b p (x ∷ xs) ys =
 pub record Put (b : List ℕ) (p : ℕ) (xs c : List ℕ) : Type 0 where
   pub is : c ≡ sets b p xs
 
+pub put_as : {b c xs ys : List ℕ} {p : ℕ} → xs ≡ ys → Put b p xs c → Put b p ys c
+put_as e h = rw e at h
+
 -- ys where the n bytes xs end: used at every level, from the bytes of a number to the records
 pub put_on : {b c d xs ys : List ℕ} {p q n : ℕ} → Put b p xs c → Put c q ys d → length xs ≡ n → q ≡ p + n → Put b p (xs ++ ys) d
 put_on {b} {c} {d} {xs} {ys} {p} {q} {n} e f l h =
@@ -26,12 +30,9 @@ put_on {b} {c} {d} {xs} {ys} {p} {q} {n} e f l h =
 pub put_front : {b xs c : List ℕ} → Put b 0 xs c → length xs ≤ length b → c ≡ xs ++ drop (length xs) b
 put_front {b} {xs} e h = e.is ∙ sets-eq xs b 0 (omega arith) ∙ ap (λ (k : ℕ). xs ++ drop k b) (zero-add (length xs))
 
--- two stores are the two bytes of a 16-bit number
-pub put_two : (b : List ℕ) (p x : ℕ) → x < 65536 → Put b p (bytes 2 x) (set (set b p (x % 256)) (p + 1) (x / 256))
-unfolding bytes
-put_two b p x h =
-    let e : x / 256 ≡ x / 256 % 256 = omega arith in
-    record { is = ap₂ (λ (k y : ℕ). set (set b p (x % 256)) k y) (add-one p) e }
+-- a part copied over
+pub put_part : (b : List ℕ) (p k : ℕ) (xs ys : List ℕ) → p + length xs ≤ length b → k ≡ length xs → ys ≡ xs → Put b p xs (put_mid p k b ys)
+put_part b p k xs ys h e f = record { is = rw (e, f) (ap (λ (r : List ℕ). take p b ++ (xs ++ r)) (drop-drop (length xs) p b) ∙ sym (append_assoc (take p b) xs (drop (p + length xs) b)) ∙ sym (sets-eq xs b p h)) }
 
 -- a loop that puts parts of one length r: none yet, and one part more
 pub put_none : (b : List ℕ) (p : ℕ) (f : ℕ → List ℕ) → Put b p (joined 0 f) b
@@ -41,8 +42,8 @@ put_none b p f = record { is = refl }
 pub put_next : {b c d : List ℕ} {p q n : ℕ} (r : ℕ) (f : ℕ → List ℕ) → ((i : ℕ) → length (f i) ≡ r) → Put b p (joined n f) c → Put c q (f n) d → q ≡ p + n * r → Put b p (joined (n + 1) f) d
 put_next {n = n} r f h e g l = rw (joined_step n f) (put_on e g (length_joined n r f h) l)
 
--- the trailer, field by field; 20556 is 4C 50
+-- the trailer, field by field
 pub put_trailer : (back M N D count : ℕ) {b b₁ b₂ b₃ b₄ b₅ b₆ : List ℕ} {p : ℕ} → Put b p (bytes 4 back) b₁ → Put b₁ (p + 4) (bytes 2 M) b₂ → Put b₂ (p + 6) (bytes 2 N) b₃
-    → Put b₃ (p + 8) (bytes 2 D) b₄ → Put b₄ (p + 10) (bytes 4 count) b₅ → Put b₅ (p + 14) (bytes 2 20556) b₆ → Put b p (trailer_bytes back M N D count) b₆
+    → Put b₃ (p + 8) (bytes 2 D) b₄ → Put b₄ (p + 10) (bytes 4 count) b₅ → Put b₅ (p + 14) (76 ∷ 80 ∷ []) b₆ → Put b p (trailer_bytes back M N D count) b₆
 unfolding trailer_bytes bytes
 put_trailer back M N D count f g h i j k = put_on (put_on (put_on (put_on (put_on f g refl refl) h refl refl) i refl refl) j refl refl) k refl refl

@@ -23,10 +23,10 @@ unfolding bytes
 length_arrival output cell = refl
 
 -- and in the record of a slot
-abbrev bytes_at : Arrivals → ℕ → List ℕ
+abbrev pub bytes_at : Arrivals → ℕ → List ℕ
 bytes_at a i = arrival_bytes (output_at a i) (cell_at a i)
 
-length_at : (a : Arrivals) (i : ℕ) → length (bytes_at a i) ≡ 6
+pub length_at : (a : Arrivals) (i : ℕ) → length (bytes_at a i) ≡ 6
 length_at a i = length_arrival (output_at a i) (cell_at a i)
 
 -- "Per slot: hold, 4 bytes; then for each of M inputs, output 2 bytes and cell 4 bytes"

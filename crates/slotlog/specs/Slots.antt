@@ -5,10 +5,14 @@ use Rattle.masks.specs.Tests.{cases, and_both, every_at}
 use Rattle.card.specs.Paper.{ports, none, output_at, cell_at, names_below, arrival_fits, fits_at, arrivals_fit}
 use Rattle.slotlog.specs.Paper.{Slot, arrivals_of, slot_refusal}
 use Rattle.slotlog.specs.Refused.{unless_zero}
-use Rattle.slotlog.specs.declared.records.Slot as code
+use Rattle.slotlog.specs.declared.Slot as code
 
 abbrev pub slot_from : code.Slot → Slot
 slot_from s = record { hold = s.hold; arrivals = s.arrivals }
+
+-- each answer to the numbers below n is the slot that f gives
+abbrev pub GivesSlots : (ℕ → code.Slot → Type 0) → (n : ℕ) → (f : ℕ → Slot) → Type 0
+GivesSlots answers n f = (k : ℕ) (s : code.Slot) → k < n → answers k s → slot_from s ≡ f k
 
 -- "an output neither none nor < N" is refused, so an accepted one fits 2 bytes
 output_small : (M N i output cell : ℕ) → N ≤ ports → arrival_fits M N i output cell ≡ true → output < 65536

@@ -1,13 +1,14 @@
 -- The writer's refusals in three parts: by its sizes, by its records, by its room; and the tests as the code makes them. Assumes nothing.
-use Rattle.std.specs.Prelude.{◌≡◌, refl, ◌≢◌, Bool, true, false, ◌&&◌, List, ℕ, zero, suc, ◌+◌, ◌*◌, ◌/◌, ◌%◌, ◌≤◌, ◌<◌, length, leb, eqb}
-use Rattle.std.proofs.Common.{sym, ap, ap₂, ◌∙◌, div-add-mod', mul-div_cancel, le-div_iff_mul-le, div-lt_iff_lt-mul, arith, leb-true, eqb-true, eq-eqb, le-leb}
-use Rattle.std.proofs.Math.Nat.{mul-mod_left}
+use Rattle.std.specs.Prelude.{◌≡◌, refl, ◌≢◌, Bool, true, false, ◌&&◌, List, ℕ, zero, suc, ◌+◌, ◌*◌, ◌/◌, ◌≤◌, ◌<◌, length, leb, eqb, Option, None, Some, ◌^◌}
+use Rattle.std.proofs.Common.{sym, ◌∙◌, le-div_iff_mul-le, div-lt_iff_lt-mul, arith, leb-true, eqb-true, eq-eqb, le-leb}
+use Rattle.std.specs.Option.{SomeIff, option_eq}
+use mathlib.Core.Bool.{true≢false}
 use Rattle.std.proofs.lemmas.Bool.{lt-leb}
 use Rattle.masks.specs.Tests.{same_test, and_true, and_both}
 use Rattle.card.specs.Paper.{unless, card_fits}
-use Rattle.card.specs.Limits.{sizes_are}
+use Rattle.card.specs.Limits.{sizes_are, are_sizes}
 use Rattle.slotlog.specs.Paper.{record_length, trailer_length, longest, slot_refusal, first_fault, given_slot, write_refusal}
-use Rattle.slotlog.specs.Refused.{first_of, first_some, first_rest, unless_zero}
+use Rattle.slotlog.specs.Refused.{first_of, first_some, first_rest, unless_zero, zero_unless}
 use Rattle.slotlog.specs.Given.{Lists}
 
 -- 1, 2, 8: of the card and the lists' lengths
@@ -59,16 +60,18 @@ lists_are M N D holds outputs cells e =
       short = leb-true _ _ e8.0;
     }
 
+-- and the other way about
+pub are_lists : (M N D : ℕ) (holds outputs cells : List ℕ) → Lists M N D holds outputs cells → 0 ≡ size_refusal M N D (length holds) (length outputs) (length cells)
+unfolding size_refusal
+are_lists M N D holds outputs cells s =
+    sym (zero_unless 1 (are_sizes M N D s.sizes) (zero_unless 2 (and_true (eq-eqb _ _ s.outputs_full) (eq-eqb _ _ s.cells_full)) (zero_unless 8 (le-leb _ _ s.short) refl)))
+
 -- ---- the tests as the code makes them
 
--- by division: no product can be too large
-pub full_law : (x s m : ℕ) → 1 ≤ m → (eqb (x / m) s && eqb (x % m) 0) ≡ eqb x (s * m)
-full_law x s m h = same_test
-    (λ e. let b = and_both _ _ e in eq-eqb x (s * m) (whole (eqb-true (x / m) s b.0) (eqb-true (x % m) 0 b.1)))
-    (λ e. let q = eqb-true x (s * m) e in and_true (eq-eqb (x / m) s (ap (λ (y : ℕ). y / m) q ∙ mul-div_cancel s h)) (eq-eqb (x % m) 0 (ap (λ (y : ℕ). y % m) q ∙ mul-mod_left s m)))
-  where
-    whole : x / m ≡ s → x % m ≡ 0 → x ≡ s * m
-    whole p q = sym (div-add-mod' x m) ∙ ap (λ (y : ℕ). x / m * m + y) q ∙ ap (λ (y : ℕ). y * m + 0) p ∙ omega arith
+-- a product that is too large for a number is no list's length
+pub full_is : (full : Option ℕ) (v x : ℕ) → SomeIff full (v < 2 ^ 64) v → x < 2 ^ 64 → option_eq eqb full (Some x) ≡ eqb x v
+full_is None v x e l = same_test (λ q. absurd (true≢false (sym q))) (λ q. absurd (e (let z : x ≡ v = eqb-true x v q in omega (arith, z, l))))
+full_is (Some y) v x e l = let z = e.1 in same_test (λ q. eq-eqb x v (sym (eqb-true y x q) ∙ z)) (λ q. eq-eqb y x (z ∙ sym (eqb-true x v q)))
 
 -- so many records of r bytes are too many, or not: with the trailer the longest log has 32000 and 16
 pub too_long : (most s r : ℕ) → 1 ≤ r → most / r < s → 32000 ≤ most → leb (s * r + trailer_length) longest ≡ false
@@ -80,11 +83,15 @@ short_enough most s r h l m = le-leb (s * r + 16) 32016 (omega (arith, (le-div_i
 -- ---- the refusal that is given
 
 module _ (M N D : ℕ) (holds outputs cells : List ℕ) (room : ℕ) where
-  -- refused by its sizes
+  -- by its sizes
   pub by_sizes : (r : ℕ) → r ≡ size_refusal M N D (length holds) (length outputs) (length cells) → r ≢ 0 → r ≡ write_refusal M N D holds outputs cells room
   by_sizes r e d = e ∙ first_some _ _ (λ z. d (e ∙ z)) ∙ in_parts M N D holds outputs cells room
 
-  -- and else by its records, or by its room
-  pub by_rest : (r a b : ℕ) → size_refusal M N D (length holds) (length outputs) (length cells) ≡ 0 → r ≡ first_of a b → a ≡ records_refusal M N D holds outputs cells → b ≡ room_refusal M (length holds) room
+  -- else by its records
+  pub by_records : (r : ℕ) → 0 ≡ size_refusal M N D (length holds) (length outputs) (length cells) → r ≡ records_refusal M N D holds outputs cells → r ≢ 0 → r ≡ write_refusal M N D holds outputs cells room
+  by_records r z e d = e ∙ first_some _ _ (λ z. d (e ∙ z)) ∙ first_rest _ _ (sym z) ∙ in_parts M N D holds outputs cells room
+
+  -- and else by its room
+  pub by_room : (r : ℕ) → 0 ≡ size_refusal M N D (length holds) (length outputs) (length cells) → 0 ≡ records_refusal M N D holds outputs cells → r ≡ room_refusal M (length holds) room
       → r ≡ write_refusal M N D holds outputs cells room
-  by_rest r a b z e f g = e ∙ ap₂ first_of f g ∙ first_rest _ _ z ∙ in_parts M N D holds outputs cells room
+  by_room r z y e = e ∙ first_rest _ _ (sym y) ∙ first_rest _ _ (sym z) ∙ in_parts M N D holds outputs cells room

@@ -1,168 +1,100 @@
-// A slot log, read: its numbers, its trailer, its records, and the refusals that checking and reading give, in document 01's order.
-ghost use Rattle.std.specs.Prelude.{◌≡◌, ◌+◌, ◌*◌, ◌<◌, ◌≤◌, length};
+// A slot log, read: its head matter, its records, and the refusals that checking and reading give, in document 01's order.
+ghost use Rattle.std.specs.Prelude.{◌≡◌, ◌+◌, ◌*◌, ◌<◌, ◌≤◌, length, take, drop, IfOk};
 ghost use Rattle.card.specs.Paper.{number_of};
-ghost use Rattle.matches.specs.Paper.{at};
-ghost use Rattle.slotlog.specs.Paper.{number, record_length, slot_at, slot_of, record_refusal, ends_well, head_refusal, first_fault, count_of, log_fault};
-ghost use Rattle.slotlog.specs.Arrived.{arrived};
-ghost use Rattle.slotlog.specs.Head.{Sized, back_holds};
-ghost use Rattle.slotlog.specs.Reading.{Says, Known, fault_from};
+ghost use Rattle.slotlog.specs.Paper.{number, record_length, slot_at, slot_of, ends_well, head_refusal};
+ghost use Rattle.slotlog.specs.Head.{back_holds, Known};
 ghost use Rattle.slotlog.specs.Slots.{slot_from};
 
 use super::records;
-use super::records::{LONGEST, MARK, Slot, TRAILER};
-use card::{Arrivals, Card, Verdict};
+use super::records::{LONGEST, MARK, TRAILER};
+use crate::Slot;
+use card::{Card, Refusal};
 
-// What the trailer says, and where it starts.
+// A log whose head matter is in order: what its trailer says, and where its first record starts. The invariant speaks of each field, so they are no Checked.
 #[derive(Clone, Copy)]
-pub struct Trailer {
-    pub place: u32,
-    pub back: u32,
+pub struct Head<'a> {
+    log: &'a [u8],
     pub card: Card,
     pub count: u32,
+    pub first: u32,
+    pub ghost known: { Known log.now card.m card.n card.d count first },
 }
 
-// A verdict, and the record in which the fault lies, counted from 1; 0 where it lies in no record.
-#[derive(Clone, Copy)]
-pub struct Fault {
-    pub verdict: Verdict,
-    pub record: u32,
-}
-
-// The first fault of a log: refusals 8, 1, 9, then the records in order.
-pub fn log_fault(log: &[u8]) -> Fault
-    ensures { fault_from result ≡ log_fault log.now }
-{
-    let verdict = head_refusal(log);
-    if verdict.number() != 0 {
-        return Fault {
-            verdict: verdict,
-            record: 0,
-        };
-    }
-    first_fault(log, trailer_of(log))
-}
-
-// Refusals 8, 1, 9: of the head matter, whatever the records hold.
-pub fn head_refusal(log: &[u8]) -> Verdict
-    ensures { number_of result ≡ head_refusal log.now }
-{
-    if !ends_well(log) {
-        return Verdict::Log;
-    }
-    let said = trailer_of(log);
-    let card = said.card;
-    if !card.fits() {
-        return Verdict::Size;
-    }
-    if !back_holds(said.place, said.back, card.m, said.count) {
-        return Verdict::Back;
-    }
-    Verdict::Accepted
-}
-
-// The trailer of a log that has room for one.
-pub fn trailer_of(log: &[u8]) -> Trailer
-    requires { Sized log.now }
-    ensures { Says log.now result }
-{
-    let place = log.len() - TRAILER;
-    Trailer {
-        place: place as u32,
-        back: four(log, place),
-        card: Card {
-            m: two(log, place + 4),
-            n: two(log, place + 6),
-            d: two(log, place + 8),
-        },
-        count: four(log, place + 10),
-    }
-}
-
-// The slot numbered k, from 0, of a log whose head is in order.
-pub fn slot_of(log: &[u8], said: Trailer, k: u32) -> Slot
-    requires { Known log.now said × (k < said.count) }
-    ensures { slot_from result ≡ slot_of log.now k }
-{
-    let m = said.card.m;
-    let first = said.place - said.back;
-    slot_at(
-        log,
-        m,
-        first as usize + k as usize * records::record_length(m),
-    )
-}
-
-// The first fault among the records.
-fn first_fault(log: &[u8], said: Trailer) -> Fault
-    requires { Known log.now said }
-    ensures { fault_from result ≡ first_fault (count_of log.now) 0 (record_refusal log.now) }
-{
-    let count = said.count;
-    let mut k: u32 = 0;
-    while k < count {
-        let verdict = record_refusal(log, said, k);
-        if verdict.number() != 0 {
-            return Fault {
-                verdict: verdict,
-                record: k + 1,
-            };
+impl<'a> Head<'a> {
+    // Refusals 8, 1, 9: of the head matter, whatever the records hold.
+    #[tactic(auto, using(crate::specs::Numbers::read_two, crate::specs::Numbers::read_four, crate::specs::Head::ends_long, crate::specs::Head::ends_short, crate::specs::Head::fits_few), unfolding(crate::specs::Paper::head_refusal, crate::specs::Paper::back_fits))]
+    pub fn of(log: &'a [u8]) -> Result<Head<'a>, Refusal>
+        ensures refusal { number_of result ≡ head_refusal log.now }
+        ensures same { IfOk result (λ head. head.log.now ≡ log.now) }
+    {
+        if !ends_well(log) {
+            return Err(Refusal::Log);
         }
-        k += 1;
+        let place = log.len() - TRAILER;
+        let back = u32::from_le_bytes(bytes_at(log, place));
+        let card = Card {
+            m: u16::from_le_bytes(bytes_at(log, place + 4)) as u32,
+            n: u16::from_le_bytes(bytes_at(log, place + 6)) as u32,
+            d: u16::from_le_bytes(bytes_at(log, place + 8)) as u32,
+        };
+        let count = u32::from_le_bytes(bytes_at(log, place + 10));
+        if !card.fits() {
+            return Err(Refusal::Size);
+        }
+        let place = place as u32;
+        if !back_holds(place, back, card.m, count) {
+            return Err(Refusal::Back);
+        }
+        Ok(Head {
+            log,
+            card,
+            count,
+            first: place - back,
+        })
     }
-    Fault {
-        verdict: Verdict::Accepted,
-        record: 0,
+
+    // The slot numbered k, from 0.
+    #[tactic(auto, using(crate::specs::Reading::known_few, crate::specs::Reading::known_short, crate::specs::Reading::known_inside, crate::specs::Reading::known_slot))]
+    pub fn slot(self, k: u32) -> Slot
+        requires { k < self.count }
+        ensures { slot_from result ≡ slot_of self.entry.log.now k }
+    {
+        let m = self.card.m;
+        let place = self.first as usize + k as usize * records::record_length(m);
+        slot_at(self.log, m, place)
     }
 }
 
-// Refusals 3 and 4 of the record numbered k, from 0.
-fn record_refusal(log: &[u8], said: Trailer, k: u32) -> Verdict
-    requires { Known log.now said × (k < said.count) }
-    ensures { number_of result ≡ record_refusal log.now k }
-{
-    let card = said.card;
-    records::slot_refusal(card.m, card.n, slot_of(log, said, k))
-}
-
-// The record that starts at a place.
+// The record that starts at a place. Log and place go together, and not as the part behind the place: specs/Paper reads numbers by their place.
 fn slot_at(log: &[u8], m: u32, place: usize) -> Slot
-    requires { (m ≤ 32) × (place + record_length m ≤ length log.now) }
+    requires few { m ≤ 32 }
+    requires inside { place + record_length m ≤ length log.now }
     ensures { slot_from result ≡ slot_at m log.now place }
 {
-    let mut arrivals = Arrivals::none();
-    for i in 0..m {
-        let more = arrived(log, place, i, arrivals);
-        arrivals = more;
-    }
     Slot {
-        hold: four(log, place),
-        arrivals: arrivals,
+        hold: u32::from_le_bytes(bytes_at(log, place)),
+        arrivals: records::arrivals_of(m, |i| arrival_at(log, place, i)),
     }
 }
 
-// The arrivals, with that of input i in the record that starts at a place.
-fn arrived(log: &[u8], place: usize, i: u32, arrivals: Arrivals) -> Arrivals
-    requires { (i < 32) × (place + (10 + 6 * i) ≤ length log.now) }
-    ensures { result ≡ arrived i (number 2 log.now (place + (4 + 6 * i))) (number 4 log.now (place + (6 + 6 * i))) arrivals }
+// What arrives at input i, in the record that starts at a place: an output, then a cell.
+#[tactic(auto, using(crate::specs::Numbers::read_two, crate::specs::Numbers::read_four))]
+fn arrival_at(log: &[u8], place: usize, i: usize) -> (u16, u32)
+    requires few { i < 32 }
+    requires inside { place + (10 + 6 * i) ≤ length log.now }
+    ensures { (result.0 ≡ number 2 log.now (place + (4 + 6 * i))) × (result.1 ≡ number 4 log.now (place + (6 + 6 * i))) }
 {
-    let k = i as usize;
-    let output = two(log, place + (4 + 6 * k));
-    let cell = four(log, place + (6 + 6 * k));
-    records::with_arrival(arrivals, k, output as u16, cell)
+    let output = bytes_at(log, place + (4 + 6 * i));
+    let cell = bytes_at(log, place + (6 + 6 * i));
+    (u16::from_le_bytes(output), u32::from_le_bytes(cell))
 }
 
 // Refusal 8: the length, then the last two bytes.
+#[tactic(auto, using(crate::specs::Head::ends_within, crate::specs::Head::ends_without))]
 fn ends_well(log: &[u8]) -> bool
     ensures { result ≡ ends_well log.now }
 {
-    let bytes = log.len();
-    if !card::also(TRAILER <= bytes, bytes <= LONGEST) {
-        return false;
-    }
-    let place = bytes - TRAILER;
-    let low = (MARK % 256) as u32;
-    let high = (MARK / 256) as u32;
-    card::also(byte(log, place + 14) == low, byte(log, place + 15) == high)
+    (TRAILER..=LONGEST).contains(&log.len()) && log.ends_with(&MARK)
 }
 
 // Refusal 9, over whole numbers: the product fits 64 bits.
@@ -171,33 +103,13 @@ fn back_holds(place: u32, back: u32, m: u32, count: u32) -> bool
     ensures { result ≡ back_holds place back m count }
 {
     let whole = count as u64 * records::record_length(m) as u64;
-    card::also(back as u64 == whole, back <= place)
+    back as u64 == whole && back <= place
 }
 
-// The number in four bytes.
-fn four(log: &[u8], place: usize) -> u32
-    requires { place + 4 ≤ length log.now }
-    ensures { result ≡ number 4 log.now place }
+// The N bytes from a place on.
+fn bytes_at<const N: usize>(log: &[u8], place: usize) -> [u8; N]
+    requires { place + N ≤ length log.now }
+    ensures { result ≡ take N (drop place log.now) }
 {
-    let low = two(log, place);
-    let high = two(log, place + 2);
-    low + 65536 * high
-}
-
-// The number in two bytes.
-fn two(log: &[u8], place: usize) -> u32
-    requires { place + 2 ≤ length log.now }
-    ensures { (result ≡ number 2 log.now place) × (result < 65536) }
-{
-    let low = byte(log, place);
-    let high = byte(log, place + 1);
-    low + 256 * high
-}
-
-// One byte, as a number that can be multiplied.
-fn byte(log: &[u8], place: usize) -> u32
-    requires { place < length log.now }
-    ensures { (result ≡ at log.now place) × (result < 256) }
-{
-    log[place] as u32
+    log[place..place + N].try_into().unwrap()
 }

@@ -1,42 +1,51 @@
 -- Two answers that meet one promise are equal: the functions that promise an answer of document 01. Assumes nothing. Two promises of one call are equations
 -- with one right side, so together they are `answer_of r ≡ answer_of s`; a lent list that a call may change stands in its promise, and is equal too.
--- The functions that neither this file nor `Bits` names promise `r ≡ ..` itself: `masks::has` and `count`, those of `card`, `Queue::stands`, `queue_fits`,
--- `wait`, `Record::empty`, `of`, `well_formed`, `waiting`, and `playback::replay`.
-use Rattle.std.specs.Prelude.{◌≡◌, List, ◌++◌, ℕ, ◌+◌, ◌-◌, ◌<◌, length, replicate}
-use Rattle.std.proofs.Common.{sym, ap, ap₂, ◌∙◌, arith, length-append, get_or-append-add}
+-- The functions that neither this file nor `Bits` names promise `r ≡ ..` itself: `masks::has` and `count`, those of `card`, `Queue::stands`, `fits`,
+-- `wait`, `Record::empty`, `of`, `well_formed`, `waiting`; or the number of an answer without a value, which is `card`'s `verdict_unique`: `playback::replay`.
+use Rattle.std.specs.Prelude.{◌≡◌, refl, Option, Some, None, IsSome, ◌↔◌, Result, Ok, Err, List, ℕ, ◌-◌, ◌<◌, length, replicate}
+use Rattle.std.proofs.Common.{sym, ap, ap₂, ◌∙◌, arith, length-append}
 use Rattle.std.proofs.lemmas.List.{length-replicate, get_or-replicate}
-use Rattle.std.proofs.Math.Seq.{take-append_seam}
-use Rattle.card.specs.declared.Verdict.{Verdict}
+use Rattle.masks.specs.Tests.{clash}
+use Rattle.card.specs.declared.Refusal.{Refusal}
 use Rattle.card.specs.declared.Out.{Out}
 use Rattle.card.specs.declared.Counters.{Counters}
-use Rattle.card.specs.Limits.{verdict_unique}
+use Rattle.card.specs.Paper.{refusal_number, number_of}
+use Rattle.card.specs.Limits.{refusal_unique, refused, answers_alike, verdict_unique}
 use Rattle.matches.specs.Paper as matches
 use Rattle.matches.specs.Paper.{at}
 use Rattle.search.specs.declared.choice.Found.{Found}
 use Rattle.search.specs.First.{numbers_unique, FirstOf}
-use Rattle.matching.specs.declared.Answer.{Answer}
+use Rattle.matching.specs.declared.Match.{Match}
 use Rattle.matching.specs.declared.RankForm.{RankForm}
-use Rattle.matching.specs.Answers.{answer_of, form_of}
+use Rattle.matching.specs.Answers.{match_of, answer_of, form_of}
 use Rattle.queue.specs.declared.Queue.{Queue}
 use Rattle.queue.specs.declared.Sent.{Sent}
 use Rattle.queue.specs.Paper.{Ring, ring_of, Sending, sent_of}
+use Rattle.slot.specs.declared.Record.{Record}
 use Rattle.slot.specs.declared.Report.{Report}
-use Rattle.slot.specs.declared.Made.{Made}
 use Rattle.slot.specs.declared.Stepped.{Stepped}
 use Rattle.slot.specs.Paper as slots
-use Rattle.slot.specs.Answers.{made_of, report_of, stepped_of}
+use Rattle.slot.specs.Answers.{made_of, report_of, reported, stepped_of}
 use Rattle.slotlog.specs.declared.Checked.{Checked}
-use Rattle.slotlog.specs.declared.ReadSlot.{ReadSlot}
-use Rattle.slotlog.specs.declared.Written.{Written}
+use Rattle.slotlog.specs.declared.Fault.{Fault}
+use Rattle.slotlog.specs.declared.Slot.{Slot}
 use Rattle.slotlog.specs.Paper as logs
 use Rattle.slotlog.specs.Answers.{checked_of, read_of, written_of}
 use Rattle.lines.specs.declared.Line.{Line}
 use Rattle.lines.specs.Paper.{slot_line, last_line, refusal_line}
 use Rattle.lines.specs.Text.{room, text_of}
-use Rattle.lines.specs.Lengths.{slot_most, last_most, refusal_most, len_is}
 use Rattle.crosspoint.specs.Paper.{Outcome}
-use Rattle.crosspoint.specs.Outcomes.{after}
+use Rattle.crosspoint.specs.Outcomes.{after, checked_number, written_number}
+use Rattle.unique.proofs.Numbers.{small}
 use Rattle.unique.proofs.Text.{Whole, SameText, text_unique}
+
+-- ---- answers or refusals
+
+-- two that are said by one value, in which their number stands
+alike : {T S : Type 0} (f g : Result T Refusal → S) (number : S → ℕ) → ((r : Result T Refusal) → number (f r) ≡ number_of r) → ((r : Result T Refusal) → number (g r) ≡ number_of r)
+    → ((x y : T) → f (Ok x) ≡ g (Ok y) → x ≡ y) → (r s : Result T Refusal) → f r ≡ g s → r ≡ s
+alike f g number nf ng same r s e =
+    answers_alike (λ a b. f a ≡ g b → a ≡ b) (λ x y q. ap Ok (same x y q)) (λ v q. refl) r s (sym (nf r) ∙ ap number e ∙ ng s) e
 
 -- ---- search and matching
 
@@ -45,21 +54,27 @@ pub first_unique : (rows inputs outputs : List ℕ) (r s : Found) → FirstOf ro
 first_unique rows inputs outputs r s a b =
     ap₂ (λ (p : List Out) (w : ℕ). record { partners = p; weight = w }) (numbers_unique _ _ (a.partners ∙ sym b.partners)) (a.weighs ∙ sym b.weighs)
 
--- `matching::weighted_match`, `table_match`
-pub answer_unique : (r s : Answer) → answer_of r ≡ answer_of s → r ≡ s
-answer_unique r s e = go (verdict_unique _ _ (ap (λ (a : matches.Answer). a.refusal) e)) (numbers_unique _ _ (ap (λ (a : matches.Answer). a.partners) e)) e
-  where
-    answer : Verdict → List Out → matches.Answer → Answer
-    answer v p a = record { verdict = v; partners = p; size = a.pairs; weight = a.weighs }
+-- `Match::none`
+pub match_unique : (r s : Match) → match_of r ≡ match_of s → r ≡ s
+match_unique r s e =
+    ap₂ (λ (p : List Out) (a : matches.Answer). record { partners = p; size = a.pairs; weight = a.weighs })
+    (numbers_unique _ _ (ap (λ (a : matches.Answer). a.partners) e)) e
 
-    go : {v w : Verdict} {p q : List Out} {a b : matches.Answer} → v ≡ w → p ≡ q → a ≡ b → answer v p a ≡ answer w q b
-    go ev ep ea = rw (ev, ep, ea)
+-- `matching::weighted_match`, `table_match`
+pub answer_unique : (r s : Result Match Refusal) → answer_of r ≡ answer_of s → r ≡ s
+answer_unique = alike answer_of answer_of (λ (a : matches.Answer). a.refusal) number number match_unique
+  where
+    number : (r : Result Match Refusal) → (answer_of r).refusal ≡ number_of r
+    number (Ok r) = refl
+    number (Err v) = refl
 
 -- `matching::rank_form`
-pub form_unique : (r s : RankForm) → form_of r ≡ form_of s → r ≡ s
-form_unique r s e =
-    ap₂ (λ (v : Verdict) (f : matches.RankForm). record { verdict = v; rows = f.rows; inputs = f.inputs; outputs = f.outputs })
-    (verdict_unique _ _ (ap (λ (f : matches.RankForm). f.refusal) e)) e
+pub form_unique : (r s : Result RankForm Refusal) → form_of r ≡ form_of s → r ≡ s
+form_unique = alike form_of form_of (λ (f : matches.RankForm). f.refusal) number number (λ r s e. ap (λ (f : matches.RankForm). record { rows = f.rows; inputs = f.inputs; outputs = f.outputs }) e)
+  where
+    number : (r : Result RankForm Refusal) → (form_of r).refusal ≡ number_of r
+    number (Ok r) = refl
+    number (Err v) = refl
 
 -- ---- the queue, with its stretch of both lists as they are afterwards
 
@@ -69,23 +84,38 @@ pub ring_unique : (r s : Queue) (cells stamps cells' stamps' : List ℕ) → rin
 ring_unique r s cells stamps cells' stamps' e =
     (ap (λ (q : Ring). record { head = q.head; count = q.count }) e, ap (λ (q : Ring). q.cells) e, ap (λ (q : Ring). q.stamps) e)
 
--- `Queue::send`
-pub sent_unique : (r s : Sent) (cells stamps cells' stamps' : List ℕ) → sent_of r cells stamps ≡ sent_of s cells' stamps'
-    → (r ≡ s) × (cells ≡ cells') × (stamps ≡ stamps')
-sent_unique r s cells stamps cells' stamps' e =
-    let queue = ring_unique r.queue s.queue cells stamps cells' stamps' (ap (λ (x : Sending). x.ring) e) in
-    (ap₂ (λ (q : Queue) (x : Sending). record { queue = q; cell = x.cell; wait = x.wait }) queue.0 e, queue.1, queue.2)
+-- `Queue::send`: whether a cell goes is promised too
+pub sent_unique : (r s : Option Sent) (q p : Queue) (cells stamps cells' stamps' : List ℕ) (goes : Type 0) → (IsSome r ↔ goes) → (IsSome s ↔ goes)
+    → sent_of r q cells stamps ≡ sent_of s p cells' stamps'
+    → (r ≡ s) × (q ≡ p) × (cells ≡ cells') × (stamps ≡ stamps')
+sent_unique (Some x) (Some y) q p cells stamps cells' stamps' goes f g e =
+    let ring = ring_unique q p cells stamps cells' stamps' (ap (λ (z : Sending). z.ring) e) in
+    (ap (λ (z : Sending). Some (record { cell = z.cell; wait = z.wait })) e, ring.0, ring.1, ring.2)
+sent_unique None None q p cells stamps cells' stamps' goes f g e =
+    let ring = ring_unique q p cells stamps cells' stamps' (ap (λ (z : Sending). z.ring) e) in
+    (refl, ring.0, ring.1, ring.2)
+sent_unique (Some x) None q p cells stamps cells' stamps' goes f g e = absurd (clash (g.1 (f.0 refl)) refl)
+sent_unique None (Some y) q p cells stamps cells' stamps' goes f g e = absurd (clash (f.1 (g.0 refl)) refl)
 
 -- ---- the card, with both lists as they are afterwards
 
 -- `Record::fresh`
-pub made_unique : (r s : Made) (cells stamps cells' stamps' : List ℕ) → made_of r cells stamps ≡ made_of s cells' stamps'
+pub made_unique : (r s : Result Record Refusal) (cells stamps cells' stamps' : List ℕ) → made_of r cells stamps ≡ made_of s cells' stamps'
     → (r ≡ s) × (cells ≡ cells') × (stamps ≡ stamps')
 made_unique r s cells stamps cells' stamps' e = (
-  ap₂ (λ (v : Verdict) (m : slots.Made). record { verdict = v; «record» = m.state.kept }) (verdict_unique _ _ (ap (λ (m : slots.Made). m.refusal) e)) e,
-  ap (λ (m : slots.Made). m.state.cells) e,
-  ap (λ (m : slots.Made). m.state.stamps) e,
+  alike (λ a. made_of a cells stamps) (λ a. made_of a cells' stamps') (λ (m : slots.Made). m.refusal) (number cells stamps) (number cells' stamps')
+      (λ x y q. ap (λ (m : slots.Made). m.state.kept) q) r s e,
+  sym (kept r cells stamps).0 ∙ ap (λ (m : slots.Made). m.state.cells) e ∙ (kept s cells' stamps').0,
+  sym (kept r cells stamps).1 ∙ ap (λ (m : slots.Made). m.state.stamps) e ∙ (kept s cells' stamps').1,
 )
+  where
+    number : (cells stamps : List ℕ) (r : Result Record Refusal) → (made_of r cells stamps).refusal ≡ number_of r
+    number cells stamps (Ok r) = refl
+    number cells stamps (Err v) = refl
+
+    kept : (r : Result Record Refusal) (cells stamps : List ℕ) → ((made_of r cells stamps).state.cells ≡ cells) × ((made_of r cells stamps).state.stamps ≡ stamps)
+    kept (Ok r) cells stamps = (refl, refl)
+    kept (Err v) cells stamps = (refl, refl)
 
 -- `Report::none`
 pub report_unique : (r s : Report) → report_of r ≡ report_of s → r ≡ s
@@ -97,89 +127,109 @@ report_unique r s e =
 pub stepped_unique : (r s : Stepped) (cells stamps cells' stamps' : List ℕ) → stepped_of r cells stamps ≡ stepped_of s cells' stamps'
     → (r ≡ s) × (cells ≡ cells') × (stamps ≡ stamps')
 stepped_unique r s cells stamps cells' stamps' e = (
-  go
-      (verdict_unique _ _ (ap (λ (x : slots.Stepped). x.refusal) e))
-      (report_unique _ _ (ap (λ (x : slots.Stepped). x.report) e))
-      (ap (λ (x : slots.Stepped). x.state) e),
+  ap₂ (λ (o : Result Report Refusal) (x : slots.Stepped). record { «record» = x.state.kept; outcome = o })
+      (alike said said (λ x. x.0) (λ o. refl) (λ o. refl) (λ x y q. report_unique x y (ap (λ z. z.1) q)) r.outcome s.outcome (ap (λ (x : slots.Stepped). (x.refusal, x.report)) e))
+      e,
   ap (λ (x : slots.Stepped). x.state.cells) e,
   ap (λ (x : slots.Stepped). x.state.stamps) e,
 )
   where
-    stepped : Verdict → Report → slots.State → Stepped
-    stepped v p x = record { verdict = v; «record» = x.kept; report = p }
-
-    go : {v w : Verdict} {p q : Report} {x y : slots.State} → v ≡ w → p ≡ q → x ≡ y → stepped v p x ≡ stepped w q y
-    go ev ep ex = rw (ev, ep, ex)
+    said : Result Report Refusal → ℕ × slots.Report
+    said o = (number_of o, reported o)
 
 -- ---- the slot log
 
+fault_unique : (f g : Fault) → refusal_number f.refusal ≡ refusal_number g.refusal → f.«record» ≡ g.«record» → f ≡ g
+fault_unique f g e h = ap₂ (λ (v : Refusal) (n : ℕ). record { refusal = v; «record» = n }) (refusal_unique _ _ e) h
+
 -- `slotlog::check`
-pub checked_unique : (r s : Checked) → checked_of r ≡ checked_of s → r ≡ s
-checked_unique r s e = ap₂ said (verdict_unique _ _ (ap (λ (c : logs.Checked). c.fault.refusal) e)) e
-  where
-    said : Verdict → logs.Checked → Checked
-    said v c =
-        record {
-          verdict = v;
-          fault_at = c.fault.record_number;
-          card = record { m = c.m; n = c.n; d = c.d };
-          count = c.count;
-          first = c.first;
-        }
+pub checked_unique : (r s : Result Checked Fault) → checked_of r ≡ checked_of s → r ≡ s
+checked_unique (Ok r) (Ok s) e = ap (λ (c : logs.Checked). Ok (record { card = record { m = c.m; n = c.n; d = c.d }; count = c.count; first = c.first })) e
+checked_unique (Ok r) (Err g) e = absurd (refused g.refusal (sym (ap (λ (c : logs.Checked). c.fault.refusal) e)))
+checked_unique (Err f) (Ok s) e = absurd (refused f.refusal (ap (λ (c : logs.Checked). c.fault.refusal) e))
+checked_unique (Err f) (Err g) e = ap Err (fault_unique f g (ap (λ (c : logs.Checked). c.fault.refusal) e) (ap (λ (c : logs.Checked). c.fault.record_number) e))
 
 -- `slotlog::read`
-pub read_unique : (r s : ReadSlot) → read_of r ≡ read_of s → r ≡ s
-read_unique r s e =
-    ap₂ (λ (v : Verdict) (x : logs.Read). record { verdict = v; hold = x.slot.hold; arrivals = x.slot.arrivals })
-    (verdict_unique _ _ (ap (λ (x : logs.Read). x.refusal) e)) e
+pub read_unique : (r s : Result Slot Refusal) → read_of r ≡ read_of s → r ≡ s
+read_unique = alike read_of read_of (λ (x : logs.Read). x.refusal) number number (λ r s e. ap (λ (x : logs.Read). record { hold = x.slot.hold; arrivals = x.slot.arrivals }) e)
+  where
+    number : (r : Result Slot Refusal) → (read_of r).refusal ≡ number_of r
+    number (Ok r) = refl
+    number (Err v) = refl
 
 -- `slotlog::write`, with the buffer as it is afterwards
-pub written_unique : (r s : Written) (buffer buffer' : List ℕ) → written_of r buffer ≡ written_of s buffer' → (r ≡ s) × (buffer ≡ buffer')
+pub written_unique : (r s : Result ℕ Refusal) (buffer buffer' : List ℕ) → written_of r buffer ≡ written_of s buffer' → (r ≡ s) × (buffer ≡ buffer')
 written_unique r s buffer buffer' e = (
-  ap₂ (λ (v : Verdict) (w : logs.Written). record { verdict = v; length = w.length_written }) (verdict_unique _ _ (ap (λ (w : logs.Written). w.refusal) e)) e,
-  ap (λ (w : logs.Written). w.buffer) e,
+  alike (λ a. written_of a buffer) (λ a. written_of a buffer') (λ (w : logs.Written). w.refusal) (number buffer) (number buffer') (λ x y q. ap (λ (w : logs.Written). w.length_written) q) r s e,
+  sym (kept r buffer) ∙ ap (λ (w : logs.Written). w.buffer) e ∙ kept s buffer',
 )
+  where
+    number : (buffer : List ℕ) (r : Result ℕ Refusal) → (written_of r buffer).refusal ≡ number_of r
+    number buffer (Ok n) = refl
+    number buffer (Err v) = refl
+
+    kept : (r : Result ℕ Refusal) (buffer : List ℕ) → (written_of r buffer).buffer ≡ buffer
+    kept (Ok n) buffer = refl
+    kept (Err v) buffer = refl
 
 -- ---- the C interface
 
--- all eight functions of `crosspoint`: A is the lists that the function may change, taken together
+-- all eight functions of `crosspoint_c`: A is the lists that the function may change, taken together
 pub after_unique : {A : Type 0} (r s : ℕ) (lists lists' : A) → after r lists ≡ after s lists' → (r ≡ s) × (lists ≡ lists')
 after_unique {A} r s lists lists' e = (ap (λ (o : Outcome A). o.answer) e, ap (λ (o : Outcome A). o.lists) e)
 
--- ---- the exception: a line. Its text is promised, so two answers have one length and the same bytes before their end; what stands behind is left open
+-- six of those of `crosspoint`, which answer by a refusal
+pub outcome_unique : {A : Type 0} (r s : Result (Unit {0}) Refusal) (lists lists' : A) → after (number_of r) lists ≡ after (number_of s) lists' → (r ≡ s) × (lists ≡ lists')
+outcome_unique r s lists lists' e = let h = after_unique _ _ lists lists' e in (verdict_unique r s h.0, h.1)
 
--- a text shorter than the room says how long it is
-line_unique : (text : List ℕ) → length text < room → (r s : Line) → Whole r → Whole s → text_of r ≡ text → text_of s ≡ text → SameText r s
-line_unique text h r s wr ws a b =
-    text_unique r s wr ws (omega (arith, len_is r text wr a h)) (omega (arith, len_is s text ws b h)) (a ∙ sym b)
+-- its check, which answers by a fault, and its writer: both halves of the number are said, since a refusal's number has less than 32 bits
+pub check_unique : {A : Type 0} (r s : Result (Unit {0}) Fault) (lists lists' : A) → after (checked_number r) lists ≡ after (checked_number s) lists' → (r ≡ s) × (lists ≡ lists')
+check_unique r s lists lists' e = let h = after_unique _ _ lists lists' e in (number r s h.0, h.1)
+  where
+    number : (r s : Result (Unit {0}) Fault) → checked_number r ≡ checked_number s → r ≡ s
+    number (Ok x) (Ok y) q = refl
+    number (Ok x) (Err g) q = absurd (refused g.refusal (omega (arith, q, small g.refusal)))
+    number (Err f) (Ok y) q = absurd (refused f.refusal (omega (arith, q, small f.refusal)))
+    number (Err f) (Err g) q = ap Err (fault_unique f g (omega (arith, q, small f.refusal, small g.refusal)) (omega (arith, q, small f.refusal, small g.refusal)))
+
+pub write_unique : {A : Type 0} (r s : Result ℕ Refusal) (lists lists' : A) → after (written_number r) lists ≡ after (written_number s) lists' → (r ≡ s) × (lists ≡ lists')
+write_unique r s lists lists' e = let h = after_unique _ _ lists lists' e in (number r s h.0, h.1)
+  where
+    number : (r s : Result ℕ Refusal) → written_number r ≡ written_number s → r ≡ s
+    number (Ok x) (Ok y) q = ap Ok (omega (arith, q))
+    number (Ok x) (Err g) q = absurd (refused g (omega (arith, q, small g)))
+    number (Err f) (Ok y) q = absurd (refused f (omega (arith, q, small f)))
+    number (Err f) (Err g) q = ap Err (refusal_unique f g (omega (arith, q, small f, small g)))
+
+-- ---- the exception: a line. Its text is promised, so two answers have one length and the same bytes before their end; what stands behind is left open
 
 -- `lines::slot_line`
 pub slot_line_unique : (slot : ℕ) (report : slots.Report) (r s : Line) → Whole r → Whole s → text_of r ≡ slot_line slot report → text_of s ≡ slot_line slot report
     → SameText r s
-slot_line_unique slot report = line_unique (slot_line slot report) (omega (arith, slot_most slot report))
+slot_line_unique slot report r s wr ws a b = text_unique r s wr ws (a ∙ sym b)
 
 -- `lines::last_line`
 pub last_line_unique : (c : Counters) (waiting : ℕ) (r s : Line) → Whole r → Whole s → text_of r ≡ last_line c waiting → text_of s ≡ last_line c waiting
     → SameText r s
-last_line_unique c waiting = line_unique (last_line c waiting) (omega (arith, last_most c waiting))
+last_line_unique c waiting r s wr ws a b = text_unique r s wr ws (a ∙ sym b)
 
 -- `lines::refusal_line`
 pub refusal_line_unique : (refusal number : ℕ) (r s : Line) → Whole r → Whole s → text_of r ≡ refusal_line refusal number → text_of s ≡ refusal_line refusal number
     → SameText r s
-refusal_line_unique refusal number = line_unique (refusal_line refusal number) (omega (arith, refusal_most refusal number))
+refusal_line_unique refusal number r s wr ws a b = text_unique r s wr ws (a ∙ sym b)
 
 -- and no more: whatever the text, two lines that differ have it
 module _ (text : List ℕ) (h : length text < room) where
   abbrev padded : ℕ → Line
-  padded x = record { bytes = text ++ replicate (room - length text) x; len = length text }
+  padded x = record { text = record { bytes = text; spare = replicate (room - length text) x } }
 
   whole : (x : ℕ) → Whole (padded x)
   whole x = omega (arith, h, length-append text (replicate (room - length text) x), length-replicate (room - length text) x)
 
-  behind : (x : ℕ) → at (padded x).bytes (length text + 0) ≡ x
-  behind x = get_or-append-add text (replicate (room - length text) x) 0 0 ∙ get_or-replicate (room - length text) 0 x 0 (omega (arith, h))
+  behind : (x : ℕ) → at (padded x).text.spare 0 ≡ x
+  behind x = get_or-replicate (room - length text) 0 x 0 (omega (arith, h))
 
   pub line_open : ((r s : Line) → Whole r → Whole s → text_of r ≡ text → text_of s ≡ text → r ≡ s) → ⊥
   line_open one =
-      let e = one (padded 0) (padded 1) (whole 0) (whole 1) (take-append_seam text _) (take-append_seam text _) in
-      absurd (omega (arith, sym (behind 0) ∙ ap (λ (l : Line). at l.bytes (length text + 0)) e ∙ behind 1))
+      let e = one (padded 0) (padded 1) (whole 0) (whole 1) refl refl in
+      absurd (omega (arith, sym (behind 0) ∙ ap (λ (l : Line). at l.text.spare 0) e ∙ behind 1))

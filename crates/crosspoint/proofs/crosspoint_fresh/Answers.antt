@@ -1,17 +1,23 @@
 -- `crosspoint::crosspoint_fresh` meets its contract. Assumes nothing.
-use Rattle.std.proofs.Common.{sym, ◌∙◌}
-use borrow.Author.Tests.{eq-eqb, ne_eqb}
+use Rattle.std.proofs.Common.{refl, eqb-true}
+use Rattle.std.proofs.lemmas.Result.{err_from_is_err_and}
+use Rattle.card.specs.Limits as Limits
 use Rattle.crosspoint.specs.Paper.{fresh_lists}
-use Rattle.crosspoint.proofs.Outcomes.{short}
+use Rattle.crosspoint.proofs.Outcomes.{long_passed, long_refused}
 use Rattle.crosspoint.proofs.Cards.{fresh_refused, fresh_done}
 use Rattle.crosspoint.proofs.crosspoint_fresh.Goals as goal
 
-pub returns-then-kept-ne2056 : goal.returns-then-kept-ne2056
+pub returns-in_err-long : goal.returns-in_err-long
 unfolding fresh_lists
-returns-then-kept-ne2056 c = short _ _ _ _ (ne_eqb _ _ c.if-kept-ne2056.true)
+returns-in_err-long c = let p = err_from_is_err_and c.from_residual.result c.from_residual.ensures.1 in
+    rw (p.1, p.2) (long_refused _ _ _ _ _ c.in_err-long.ensures)
 
-pub returns-then-refusal-ne0 : goal.returns-then-refusal-ne0
-returns-then-refusal-ne0 c = fresh_refused _ _ _ _ _ c.fresh-made.ensures (eq-eqb _ _ c.if-kept-ne2056.false) _ c.number-refusal.ensures c.if-refusal-ne0.true
+pub returns-in_err-fresh : goal.returns-in_err-fresh
+returns-in_err-fresh c = let p = err_from_is_err_and c.from_residual-in_err-fresh.result c.from_residual-in_err-fresh.ensures.1 in
+    rw (p.1, p.2) (fresh_refused _ _ _ _ _ c.in_err-fresh.ensures (long_passed _ c.in_ok-long.ensures) _ refl (Limits.refused _))
+
+pub put_record-requires : goal.put_record-requires
+put_record-requires c = eqb-true _ _ (long_passed _ c.in_ok-long.ensures)
 
 pub returns : goal.returns
-returns c = fresh_done _ _ _ _ _ c.fresh-made.ensures (eq-eqb _ _ c.if-kept-ne2056.false) _ (sym c.number-refusal.ensures ∙ c.if-refusal-ne0.false) c.put_record.ensures
+returns c = fresh_done _ _ _ _ _ c.in_ok-fresh.ensures (long_passed _ c.in_ok-long.ensures) _ refl c.put_record.ensures

@@ -1,28 +1,20 @@
 -- `crosspoint::crosspoint_log_check` meets its contract. Assumes nothing.
-use Rattle.std.proofs.Common.{sym, ◌∙◌, refl, ap, arith}
-use mathlib.Core.List.{[], ◌∷◌}
-use Prim.Native.Nat.{ℕ}
-use lib.Seq.{lt-length-sets}
-use borrow.Author.Tests.{eq-eqb, ne_eqb}
-use Rattle.slotlog.specs.Answers.{checked_of}
-use Rattle.crosspoint.specs.Paper.{halves}
+use Rattle.std.proofs.Common.{refl, eqb-true}
+use Rattle.std.proofs.lemmas.Result.{err_from_is_err_and}
+use Rattle.card.specs.Limits as Limits
+use Rattle.crosspoint.proofs.Outcomes.{long_passed}
 use Rattle.crosspoint.proofs.Logs.{check_short, check_refused, check_passed}
-use Rattle.crosspoint.proofs.Copy.{copy_whole}
 use Rattle.crosspoint.proofs.crosspoint_log_check.Goals as goal
 
-pub returns-then-answer-ne5 : goal.returns-then-answer-ne5
-returns-then-answer-ne5 c = check_short _ _ (ne_eqb _ _ c.if-answer-ne5.true)
+pub returns-in_err-long : goal.returns-in_err-long
+returns-in_err-long c = let p = err_from_is_err_and c.from_residual.result c.from_residual.ensures.1 in rw (p.1, p.2) (check_short _ _ _ c.in_err-long.ensures)
 
-pub returns-then-refusal-ne0 : goal.returns-then-refusal-ne0
-returns-then-refusal-ne0 c = let r = c.check-checked.result in
-    check_refused _ _ (eq-eqb _ _ c.if-answer-ne5.false) (checked_of r) c.check-checked.ensures _ (c.two_halves.ensures ∙ ap (λ (k : ℕ). halves k r.fault_at) c.number-refusal.ensures) (λ z. c.if-refusal-ne0.true (c.number-refusal.ensures ∙ z))
+pub returns-in_err-checked : goal.returns-in_err-checked
+returns-in_err-checked c = let p = err_from_is_err_and c.from_residual-in_err-checked.result c.from_residual-in_err-checked.ensures.1 in
+    rw (p.1, p.2) (check_refused _ _ (long_passed _ c.in_ok-long.ensures) _ c.in_err-checked.ensures _ refl (Limits.refused _))
 
-pub bounds-answer-3 : goal.bounds-answer-3
-bounds-answer-3 c = let r = c.check-checked.result in let a = c.args.answer.now in lt-length-sets a 0 (r.card.m ∷ r.card.n ∷ r.card.d ∷ []) (omega (arith, c.if-answer-ne5.false))
-
-pub bounds-answer-4 : goal.bounds-answer-4
-bounds-answer-4 c = let r = c.check-checked.result in let a = c.args.answer.now in lt-length-sets a 0 (r.card.m ∷ r.card.n ∷ r.card.d ∷ r.count ∷ []) (omega (arith, c.if-answer-ne5.false))
+pub copy_from_slice-requires : goal.copy_from_slice-requires
+copy_from_slice-requires c = eqb-true _ _ (long_passed _ c.in_ok-long.ensures)
 
 pub returns : goal.returns
-returns c = let r = c.check-checked.result in
-    check_passed _ _ (eq-eqb _ _ c.if-answer-ne5.false) (checked_of r) c.check-checked.ensures _ (c.two_halves-2.ensures ∙ ap (λ (k : ℕ). halves k r.fault_at) c.number-refusal.ensures) _ (sym c.number-refusal.ensures ∙ c.if-refusal-ne0.false) (copy_whole {b = c.args.answer.now} (r.card.m ∷ r.card.n ∷ r.card.d ∷ r.count ∷ r.first ∷ []) (sym c.if-answer-ne5.false) (record { is = refl }))
+returns c = check_passed _ _ (long_passed _ c.in_ok-long.ensures) _ c.in_ok-checked.ensures _ refl _ refl c.copy_from_slice.ensures.after

@@ -1,42 +1,44 @@
 -- `crosspoint::crosspoint_log_read` meets its contract. Assumes nothing.
-use Rattle.std.proofs.Common.{sym, ◌∙◌, ◌≡◌, refl, ap, ap₂, arith, rules}
+use Rattle.std.proofs.Common.{sym, ◌∙◌, ap, ap₂, arith, rules}
+use Rattle.std.proofs.lemmas.Result.{err_from_is_err_and}
 use mathlib.Core.List.{List, [], ◌∷◌}
 use Prim.Native.Nat.{ℕ}
-use lib.ListN.{length}
+use Rattle.card.specs.Limits as Limits
 use Rattle.search.specs.First.{numbers}
 use Rattle.slotlog.specs.Paper.{Read}
 use Rattle.crosspoint.specs.Paper.{read_lists}
 use Rattle.crosspoint.specs.Outcomes.{read_into}
-use Rattle.crosspoint.proofs.Outcomes.{short, refused, accepted, passed, read_long_lem}
-use Rattle.crosspoint.proofs.Copy.{copy_whole}
+use Rattle.crosspoint.proofs.Outcomes.{long_passed, long_refused, refused, accepted, passed, read_long_lem}
+use Rattle.crosspoint.proofs.Copy.{set_only}
 use Rattle.crosspoint.proofs.crosspoint_log_read.Goals as goal
 
-pub returns-then-not-read_long : goal.returns-then-not-read_long
+pub returns-in_err-read_long : goal.returns-in_err-read_long
 unfolding read_lists
-returns-then-not-read_long c = short _ _ _ _ (sym c.read_long.ensures ∙ c.if-not-read_long.true)
+returns-in_err-read_long c = let p = err_from_is_err_and c.from_residual.result c.from_residual.ensures.1 in
+    rw (p.1, p.2) (long_refused _ _ _ _ _ c.in_err-read_long.ensures)
 
-pub returns-then-refusal-ne0 : goal.returns-then-refusal-ne0
+pub returns-in_err-found : goal.returns-in_err-found
 unfolding read_lists
-returns-then-refusal-ne0 c = refused _ _ _ _ (c.number-refusal.ensures ∙ ap (λ (r : Read). r.refusal) c.read-found.ensures) c.if-refusal-ne0.true ∙ passed _ 2 _ _ _ (sym c.read_long.ensures ∙ c.if-not-read_long.false)
+returns-in_err-found c = let p = err_from_is_err_and c.from_residual-in_err-found.result c.from_residual-in_err-found.ensures.1 in
+    rw (p.1, p.2) (refused _ _ _ _ (ap (λ (r : Read). r.refusal) c.in_err-found.ensures) (Limits.refused _) ∙ passed _ 2 _ _ _ (long_passed _ c.in_ok-read_long.ensures))
 
 pub bounds-hold-0 : goal.bounds-hold-0
-bounds-hold-0 c = let h = read_long_lem _ _ _ (sym c.read_long.ensures ∙ c.if-not-read_long.false) in omega (arith, h.hold)
+bounds-hold-0 c = let h = read_long_lem _ _ _ (long_passed _ c.in_ok-read_long.ensures) in omega (arith, h.hold)
 
 pub put_outputs-requires : goal.put_outputs-requires
-put_outputs-requires c = (read_long_lem _ _ _ (sym c.read_long.ensures ∙ c.if-not-read_long.false)).outputs
+put_outputs-requires c = (read_long_lem _ _ _ (long_passed _ c.in_ok-read_long.ensures)).outputs
 
-pub put_numbers-requires : goal.put_numbers-requires
-put_numbers-requires c = let h = read_long_lem _ _ _ (sym c.read_long.ensures ∙ c.if-not-read_long.false) in omega (arith, h.cells)
+pub copy_from_slice-requires : goal.copy_from_slice-requires
+copy_from_slice-requires c = (read_long_lem _ _ _ (long_passed _ c.in_ok-read_long.ensures)).cells ∙ search rules
 
 pub returns : goal.returns
 unfolding read_lists
-returns c = let f = c.read-found.ensures in
-    let t = sym c.read_long.ensures ∙ c.if-not-read_long.false in
-    let h = read_long_lem _ _ _ t in
-    let a = c.args in
-    let i : length c.read-found.result.arrivals.cells ≡ 32 = search rules in
-    accepted _ _ _ _ (sym (ap (λ (r : Read). r.refusal) f) ∙ sym c.number-refusal.ensures ∙ c.if-refusal-ne0.false)
-    (ap₂ (λ (x : List ℕ) (y : List ℕ). read_into x y c.put_numbers.new.list) (copy_whole {b = a.hold.now} (c.read-found.result.hold ∷ []) (sym h.hold) (record { is = refl })) c.put_outputs.ensures
-    ∙ ap (λ (x : List ℕ). read_into (c.read-found.result.hold ∷ []) (numbers c.read-found.result.arrivals.outputs) x) (copy_whole _ (i ∙ sym h.cells) c.put_numbers.ensures)
+returns c =
+    let f = c.in_ok-found.ensures in
+    let t = long_passed _ c.in_ok-read_long.ensures in
+    let first = set_only c.args.hold.now c.in_ok-found.found.hold (read_long_lem _ _ _ t).hold in
+    let rest = ap₂ (λ (x y : List ℕ). read_into (c.in_ok-found.found.hold ∷ []) x y) c.put_outputs.ensures c.copy_from_slice.ensures.after in
+    accepted _ _ _ _ (sym (ap (λ (r : Read). r.refusal) f))
+    (ap (λ (x : List ℕ). read_into x c.put_outputs.new.list c.copy_from_slice.new.self) first ∙ rest
     ∙ ap (λ (r : Read). read_into (r.slot.hold ∷ []) (numbers r.slot.arrivals.outputs) r.slot.arrivals.cells) f)
     ∙ passed _ 2 _ _ _ t

@@ -6,6 +6,5 @@ use Rattle.lines.proofs.last_line.Goals as goal
 pub returns : goal.returns
 unfolding last_line
 returns c =
-    let first = then c.field-line.ensures c.field-line-2.ensures in
-    let four = then (then first c.field-line-3.ensures) c.field-line-4.ensures in
-    whole _ c.start.ensures.0 (then (then four c.field.ensures) c.end.ensures)
+    let four = then (then (then c.field.ensures c.field-2.ensures) c.field-3.ensures) c.field-4.ensures in
+    whole _ c.starting-line.ensures (then (then four c.field-5.ensures) c.end.ensures)

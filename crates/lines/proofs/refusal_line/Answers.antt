@@ -5,4 +5,4 @@ use Rattle.lines.proofs.refusal_line.Goals as goal
 
 pub returns : goal.returns
 unfolding refusal_line
-returns c = whole _ c.start.ensures.0 (then (then c.field-line.ensures c.field.ensures) c.end.ensures)
+returns c = whole _ c.starting-line.ensures (then (then c.field.ensures c.field-2.ensures) c.end.ensures)

@@ -1,17 +1,16 @@
 -- `matching::rank_form` meets its contract. Assumes nothing.
-use Rattle.std.proofs.Common.{refl, sym, ap, ◌∙◌}
-use Prim.Native.Nat.{ℕ}
-use Rattle.card.specs.declared.Verdict.TheVariants.{Accepted}
-use Rattle.matches.specs.Paper.{ranked, rank_form}
+use Rattle.std.proofs.Common.{refl, sym}
+use Rattle.std.proofs.lemmas.Result.{err_from_is_err_and}
+use Rattle.matches.specs.Paper.{rank_form}
 use Rattle.matching.specs.Answers.{form_refused, form_accepted}
 use Rattle.matching.proofs.rank_form.Goals as goal
 
-pub returns-then-number-ne0 : goal.returns-then-number-ne0
+pub returns-in_err-of_weights : goal.returns-in_err-of_weights
 unfolding rank_form
-returns-then-number-ne0 c = form_refused c.of_weights-verdict.result c.args.rows c.args.inputs c.args.outputs _ refl refl refl refl (λ z. c.if-number-ne0.true (c.number.ensures ∙ z))
-    ∙ ap (λ (k : ℕ). ranked k c.args.rows c.args.inputs c.args.outputs) c.of_weights-verdict.ensures
+returns-in_err-of_weights c = let p = err_from_is_err_and c.from_residual.result c.from_residual.ensures.1 in
+    rw (p.1, p.2) (form_refused _ _ c.args.rows c.args.inputs c.args.outputs c.in_err-of_weights.ensures)
 
 pub returns : goal.returns
 unfolding rank_form
-returns c = form_accepted _ _ _ _ _ (record { verdict = Accepted; rows = _; inputs = _; outputs = _ }) c.asking.ensures.is c.asking_outs.ensures refl refl c.ranks-input_ranks.ensures c.ranks-output_ranks.ensures
-    ∙ ap (λ (k : ℕ). ranked k c.args.rows c.args.inputs c.args.outputs) (sym c.if-number-ne0.false ∙ c.number.ensures ∙ c.of_weights-verdict.ensures)
+returns c = form_accepted _ _ _ _ _ _ (sym c.in_ok-of_weights.ensures) c.asking.ensures.is c.asking_outs.ensures
+    (record { rows = _; inputs = _; outputs = _ }) refl c.ranks.ensures c.ranks-2.ensures

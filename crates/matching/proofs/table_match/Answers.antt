@@ -1,27 +1,23 @@
 -- `matching::table_match` meets its contract. Assumes nothing.
-use Rattle.std.proofs.Common.{sym, ap, ◌∙◌}
-use Prim.Native.Nat.{ℕ}
-use Rattle.matches.specs.Paper.{answer, table_in, table_out, table_rows, table_match}
-use Rattle.matches.proofs.Accepted.{table_ok}
-use Rattle.matching.specs.Answers.{answer_refused, answer_accepted}
-use Rattle.matching.specs.Queues.{sized}
+use Rattle.std.proofs.Common.{sym}
+use Rattle.std.proofs.lemmas.Result.{err_from_is_err_and}
+use Rattle.matches.specs.Paper.{table_in, table_out, table_rows, table_match}
+use Rattle.matching.specs.Answers.{answer_refused, answer_accepted, light_bounded}
+use Rattle.matching.specs.Queues.{accepted_sized}
 use Rattle.matching.proofs.table_match.Goals as goal
 
-pub returns-then-number-ne0 : goal.returns-then-number-ne0
+pub returns-in_err-of_table : goal.returns-in_err-of_table
 unfolding table_match
-returns-then-number-ne0 c = c.refused.ensures ∙ answer_refused c.of_table-verdict.result (table_rows c.args.m c.args.n c.args.counts.now c.args.hold) (table_in c.args.m c.args.n c.args.counts.now) (table_out c.args.m c.args.n c.args.counts.now) (λ z. c.if-number-ne0.true (c.number.ensures ∙ z))
-    ∙ ap (λ (k : ℕ). answer k (table_rows c.args.m c.args.n c.args.counts.now c.args.hold) (table_in c.args.m c.args.n c.args.counts.now) (table_out c.args.m c.args.n c.args.counts.now)) c.of_table-verdict.ensures
+returns-in_err-of_table c = let p = err_from_is_err_and c.from_residual.result c.from_residual.ensures.1 in
+    let counts = c.args.counts.now in
+    rw (p.1, p.2) (answer_refused _ _ (table_rows c.args.m c.args.n counts c.args.hold) (table_in c.args.m c.args.n counts) (table_out c.args.m c.args.n counts) c.in_err-of_table.ensures)
 
-pub rows-rows-requires : goal.rows-rows-requires
-rows-rows-requires c = table_ok c.args.m c.args.n c.args.counts.now c.args.hold (sym c.of_table-verdict.ensures ∙ sym c.number.ensures ∙ c.if-number-ne0.false)
+pub invariant_of-table : goal.invariant_of-table
+invariant_of-table c = record { sized = accepted_sized _ _ _ c.args.hold (sym c.in_ok-of_table.ensures) }
 
-pub in_totals-inputs-requires : goal.in_totals-inputs-requires
-in_totals-inputs-requires c = sized (table_ok c.args.m c.args.n c.args.counts.now c.args.hold (sym c.of_table-verdict.ensures ∙ sym c.number.ensures ∙ c.if-number-ne0.false))
-
-pub out_totals-outputs-requires : goal.out_totals-outputs-requires
-out_totals-outputs-requires c = sized (table_ok c.args.m c.args.n c.args.counts.now c.args.hold (sym c.of_table-verdict.ensures ∙ sym c.number.ensures ∙ c.if-number-ne0.false))
+pub heaviest-requires : goal.heaviest-requires
+heaviest-requires c = light_bounded _ _ _ c.in_totals-inputs.ensures.1 c.out_totals-outputs.ensures.1
 
 pub returns : goal.returns
 unfolding table_match
-returns c = rw (c.rows-rows.ensures, c.in_totals-inputs.ensures.0, c.out_totals-outputs.ensures.0) at (answer_accepted _ _ _ _ c.answered.ensures)
-    ∙ ap (λ (k : ℕ). answer k (table_rows c.args.m c.args.n c.args.counts.now c.args.hold) (table_in c.args.m c.args.n c.args.counts.now) (table_out c.args.m c.args.n c.args.counts.now)) (sym c.if-number-ne0.false ∙ c.number.ensures ∙ c.of_table-verdict.ensures)
+returns c = answer_accepted _ _ _ _ _ (sym c.in_ok-of_table.ensures) (rw (c.rows.ensures, c.in_totals-inputs.ensures.0, c.out_totals-outputs.ensures.0) at c.heaviest.ensures)

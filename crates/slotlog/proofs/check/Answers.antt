@@ -1,20 +1,22 @@
 -- `slotlog::check` meets its contract. Assumes nothing.
-use Rattle.std.proofs.Common.{sym, ap, ◌∙◌, arith}
-use Rattle.slotlog.specs.Faults.{refusal_of}
-use Rattle.slotlog.specs.Head.{head_is}
-use Rattle.slotlog.specs.Checking.{log_none, check_fault}
-use Rattle.slotlog.specs.Answers.{check_said}
+use Rattle.std.proofs.Common.{ap, ◌∙◌, rules}
+use Rattle.std.proofs.lemmas.Result.{err_from_is_err_and}
+use Rattle.slotlog.specs.Paper.{slot_of, check}
+use Rattle.slotlog.specs.Answers.{check_head, check_record, check_good}
 use Rattle.slotlog.proofs.check.Goals as goal
 
-pub returns-then-number-ne0 : goal.returns-then-number-ne0
-returns-then-number-ne0 c = check_fault _ _ c.log_fault-fault.ensures (λ z. c.if-number-ne0.true (c.number.ensures ∙ z))
+pub returns-in_err-head : goal.returns-in_err-head
+returns-in_err-head c = let p = err_from_is_err_and c.from_residual.result c.from_residual.ensures.1 in rw (p.1, p.2) (check_head c.args.log.now _ c.in_err-head.ensures.refusal)
 
-pub trailer_of-said-requires : goal.trailer_of-said-requires
-trailer_of-said-requires c = (head_is _ (log_none _ (sym (ap refusal_of c.log_fault-fault.ensures) ∙ sym c.number.ensures ∙ c.if-number-ne0.false))).sized
-
-pub overflow_sub-result : goal.overflow_sub-result
-overflow_sub-result c = let s = c.trailer_of-said.ensures in
-    omega (arith, s.back, s.place, (head_is _ (log_none _ (sym (ap refusal_of c.log_fault-fault.ensures) ∙ sym c.number.ensures ∙ c.if-number-ne0.false))).room)
+pub returns-in_err-first_fault : goal.returns-in_err-first_fault
+returns-in_err-first_fault c =
+    let head = c.in_ok-head.head in
+    let fault = c.in_err-first_fault.ensures (slot_of head.log.now) (λ k s l post. search rules) in
+    let p = err_from_is_err_and c.from_residual-in_err-first_fault.result c.from_residual-in_err-first_fault.ensures.1 in
+    rw (p.1, p.2) (check_record head.log.now head.known _ fault ∙ ap check c.in_ok-head.ensures.same)
 
 pub returns : goal.returns
-returns c = check_said _ _ _ c.trailer_of-said.ensures c.log_fault-fault.ensures (sym c.number.ensures ∙ c.if-number-ne0.false)
+returns c =
+    let head = c.in_ok-head.head in
+    let fault = c.in_ok-first_fault.ensures (slot_of head.log.now) (λ k s l post. search rules) in
+    check_good head.log.now head.known fault ∙ ap check c.in_ok-head.ensures.same

@@ -6,6 +6,3 @@ use Rattle.matching.proofs.ranks.levels_of.Given as goal
 
 abbrev pub invariant-loop-i : goal.invariant-loop-i
 invariant-loop-i l = Found (has l.asking) (at l.weights) l.i l.levels.from l.levels.weights
-
-abbrev pub decreases-loop-i : goal.decreases-loop-i
-decreases-loop-i l = l.i

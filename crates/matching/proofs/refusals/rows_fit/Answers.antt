@@ -1,16 +1,17 @@
--- `matching::refusals::rows_fit` meets its contract. Assumes nothing.
-use Rattle.std.proofs.Common.{◌≡◌, sym, ap₂, ◌∙◌, arith, rules}
-use mathlib.Core.Bool.{◌&&◌}
-use Rattle.masks.specs.Tests.{every_step, every_none}
-use Rattle.matches.specs.Paper.{rows_fit}
+-- `matching::refusals::rows_fit` meets its contract: the chain tests each place. Assumes nothing.
+use Rattle.std.specs.Prelude.{ℕ, Bool, true, false, refl}
+use Rattle.std.proofs.Common.{◌≡◌, rules}
+use Rattle.std.proofs.lemmas.Iterator.{cases_from_all, YieldsList-from_zip, YieldsList-from_range, YieldsList-from_slice}
+use borrow.Author.Tests.{tests}
+use Rattle.masks.proofs.Chains.{every_placed}
+use Rattle.matches.specs.Paper.{at, row_fits, rows_fit}
 use Rattle.matching.proofs.refusals.rows_fit.Goals as goal
-
-pub loop-i-init : goal.loop-i-init
-loop-i-init c = (search rules, sym (every_none _))
-
-pub loop-i-preserved : goal.loop-i-preserved
-loop-i-preserved c = (search rules, rw every_step (c.also-ok.ensures ∙ ap₂ ◌&&◌ c.loop-i.invariant.1 c.row_fits.ensures))
 
 pub returns : goal.returns
 unfolding rows_fit
-returns c = let e : c.loop-i.i ≡ 32 = omega arith in rw e at c.loop-i.invariant.1
+returns c =
+    let l = c.args.rows in
+    let test : ℕ → ℕ → Bool = λ k x. row_fits c.args.m c.args.n k x in
+    let items = YieldsList-from_zip {s = c.zip.result} (YieldsList-from_range 0 32 32 (search rules) refl) (YieldsList-from_slice l (search rules)) in
+    every_placed (λ k. test k (at l k)) test l 32 0 (search rules) (λ k h. refl) c.all.result
+    (cases_from_all c.all.new.self _ _ (λ x. test x.0 x.1 ≡ true) (λ x. test x.0 x.1 ≡ false) c.all.ensures.ran items (λ x q k. search (rules, tests)) (λ x q k. search (rules, tests)))

@@ -1,10 +1,13 @@
 -- `slot::Record::fresh` meets its contract. Assumes nothing.
-use Rattle.std.proofs.Common.{sym, ◌∙◌}
+use Rattle.std.proofs.Common.{◌≡◌, sym, Err, refl, rules}
 use Rattle.slot.proofs.Refused.{fresh_refused, fresh_made}
+use Rattle.card.specs.Limits.{refused}
 use Rattle.slot.proofs.Record.fresh.Goals as goal
 
-pub returns-then-number-ne0 : goal.returns-then-number-ne0
-returns-then-number-ne0 c = fresh_refused _ _ _ _ _ c.of_fresh-verdict.ensures (λ e. c.if-number-ne0.true (c.number.ensures ∙ e)) c.empty.ensures
+pub returns-in_err-of_fresh : goal.returns-in_err-of_fresh
+returns-in_err-of_fresh c = let r = c.in_err-of_fresh in
+    let e : c.from_residual.result ≡ Err r.field-0.0 = search rules in
+    rw e (fresh_refused _ _ _ _ _ r.ensures (refused _) refl)
 
 pub returns : goal.returns
-returns c = fresh_made _ _ _ _ _ _ (sym c.of_fresh-verdict.ensures ∙ sym c.number.ensures ∙ c.if-number-ne0.false) c.of.ensures c.clear.ensures c.clear-2.ensures
+returns c = fresh_made _ _ _ _ _ _ (sym c.in_ok-of_fresh.ensures) c.of.ensures (c.fill.ensures.after (λ y e. e)) (c.fill-2.ensures.after (λ y e. e))

@@ -1,18 +1,14 @@
 -- `slotlog::reading::slot_at` meets its contract. Assumes nothing.
-use Rattle.std.proofs.Common.{◌≡◌, ap₂, ◌∙◌, rules}
-use Prim.Native.Nat.{ℕ}
+use Rattle.std.proofs.Common.{◌∙◌, ap₂, ℕ, rules, ◌+◌, ◌*◌}
 use Rattle.card.specs.declared.Arrivals.{Arrivals}
-use Rattle.slotlog.specs.Paper.{slot_at}
-use Rattle.slotlog.specs.Arrived.{arrived_none, arrived_step}
+use Rattle.slotlog.specs.Paper.{number, slot_at}
+use Rattle.slotlog.specs.Numbers.{read_four}
 use Rattle.slotlog.proofs.reading.slot_at.Goals as goal
-
-pub loop-i-init : goal.loop-i-init
-loop-i-init c = (search rules, c.none-arrivals.ensures ∙ arrived_none _ _)
-
-pub loop-i-preserved : goal.loop-i-preserved
-loop-i-preserved c = (search rules, c.arrived-more.ensures ∙ arrived_step _ _ _ _ (search rules) c.loop-i.invariant.1)
 
 pub returns : goal.returns
 unfolding slot_at
-returns c = let e : c.loop-i.i ≡ c.args.m = search rules in
-    ap₂ (λ (h : ℕ) (a : Arrivals). record { hold = h; arrivals = a }) c.four.ensures (rw e at c.loop-i.invariant.1)
+returns c =
+    let log = c.args.log.now in
+    let p = c.args.place in
+    ap₂ (λ (h : ℕ) (a : Arrivals). record { hold = h; arrivals = a }) (c.from_le_bytes.ensures ∙ read_four c.bytes_at.result log p c.bytes_at.ensures)
+    (c.arrivals_of.ensures (λ i. number 2 log (p + (4 + 6 * i))) (λ i. number 4 log (p + (6 + 6 * i))) (λ i arrival l post. search rules))

@@ -1,9 +1,0 @@
--- The place lies within the bytes, and the measure is what is left of them.
-use Rattle.std.proofs.Common.{◌≤◌, ◌-◌, length}
-use Rattle.bench.proofs.cases.Given as goal
-
-abbrev pub invariant-loop-at : goal.invariant-loop-at
-invariant-loop-at g l = l.at ≤ length l.bytes
-
-abbrev pub decreases-loop-at : goal.decreases-loop-at
-decreases-loop-at g l = length l.bytes - l.at

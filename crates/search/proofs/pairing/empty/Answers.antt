@@ -1,6 +1,0 @@
--- `search::pairing::empty` meets its contract. Assumes nothing.
-use Rattle.search.specs.Pair.{empty_law}
-use Rattle.search.proofs.pairing.empty.Goals as goal
-
-pub returns : goal.returns
-returns c = empty_law

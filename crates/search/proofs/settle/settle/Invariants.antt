@@ -1,9 +1,0 @@
--- The measure: what those without a partner weigh, and one more each. Assumes nothing.
-use Rattle.search.specs.Settle.{Come, loss_of}
-use Rattle.search.proofs.settle.settle.Given as goal
-
-abbrev pub invariant-loop-q : goal.invariant-loop-q
-invariant-loop-q l = Come l.rows l.weights l.initial.q l.q
-
-abbrev pub decreases-loop-q : goal.decreases-loop-q
-decreases-loop-q l = loss_of l.weights l.q
