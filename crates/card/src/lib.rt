@@ -17,7 +17,8 @@ pub struct Card {
 #[derive(Clone, Copy)]
 pub struct In(pub u16);
 
-// An output number, or none: 65535, as C and the log say it. A caller may hand in any number here, which an Option would not take.
+// An output number, or none: 65535, as C and the log say it. A caller may hand in any number in arrivals, which an Option would not take. None is asked of the
+// number itself, since document 01 names the number.
 #[derive(Clone, Copy)]
 pub struct Out(pub u16);
 

@@ -1,5 +1,6 @@
 // The card's record as a list of 2,056 numbers: M, N, D at 0, 1, 2; the heads from 3; the counts from 1,027; the slot number and the four counters
-// from 2,051. And the slot's report as a list of 99.
+// from 2,051. And the slot's report as a list of 99. Lists come as C lends them, of a length that the caller has tested. A record's list is tested and then read,
+// as specs/Paper has the two: a TryFrom would stand in `slot`, which knows no lists.
 ghost use Rattle.std.specs.Prelude.{◌≡◌, true, length};
 ghost use Rattle.slot.specs.Answers.{report_of};
 ghost use Rattle.crosspoint.specs.Paper.{record_long, record_list, record_in, record_holds, report_long, report_list};

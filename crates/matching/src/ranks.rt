@@ -75,7 +75,7 @@ fn levels_of(asking: u32, weights: [u32; 32]) -> Levels
     ensures { Found (has asking) (at weights) 0 result.from result.weights }
 {
     let mut levels = Levels::none(weights);
-    // The number of a port is asked of the set and of the list.
+    // By number, which is asked of the set and of the list: behind `enumerate().rev()` a proof does not know which port it is.
     for i in (0..32u32).rev() {
         if masks::has(asking, i) {
             levels = levels.add(weights[i as usize]);

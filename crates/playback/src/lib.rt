@@ -118,7 +118,7 @@ fn print<W: Write>(out: &mut W, line: Line) -> io::Result<()>
     out.write_all(line.text.as_bytes())
 }
 
-// How many places a card has; none where it is not within its limits, as `places_of` has it, so that any card may be asked.
+// How many places a card has; none where it is not within its limits, as `places_of` has it, of which the room's laws speak.
 fn places(card: Card) -> usize
     ensures { result ≡ places_of card }
 {

@@ -17,7 +17,7 @@ pub struct Whole {
     pub weights: Weights,
 }
 
-// The inputs and outputs that are left, a heaviest match of what they request with its weight, and the partners fixed so far.
+// The inputs and outputs that are left, a heaviest match of what they request with its weight, and the partners fixed so far, as `Found` hands them on.
 #[derive(Clone, Copy)]
 pub struct Rest {
     pub ins: u32,

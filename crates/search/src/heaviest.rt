@@ -64,6 +64,7 @@ impl Weights {
     pub fn weigh(&self, p: &Pairing) -> u64
         ensures { (result ≡ weight 32 32 (at self.now.inputs) (at self.now.outputs) (at p.now.mine)) × (result < 274877906944) }
     {
+        // A `for`: that 32 gains stay below the bound does not close for the `sum` of a chain.
         let mut sum = 0;
         for (i, j) in p.mine.iter().enumerate() {
             sum += self.brought(i as u32, u32::from(*j));

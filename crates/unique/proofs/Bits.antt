@@ -1,8 +1,9 @@
 -- Two answers that meet one promise are equal: the functions that promise a number by its bits. The other functions are in `Answers`. Assumes nothing.
 -- Where a promise says nothing of some bit from 32 on, the law also takes what the type says: the answers are u32, below 2 ^ 32.
-use Rattle.std.specs.Prelude.{◌≡◌, refl, ◌⊎◌, ◌≢◌, Bool, true, false, List, ℕ, zero, suc, ◌+◌, ◌^◌, ◌≤◌, ◌<◌}
-use Rattle.std.proofs.Common.{sym, ◌∙◌, inl, inr, pow-suc, arith, pow_mono}
+use Rattle.std.specs.Prelude.{◌≡◌, refl, ◌⊎◌, ◌≢◌, Bool, true, false, List, ℕ, zero, suc, ◌+◌, ◌^◌, ◌≤◌, ◌<◌, Option, None, Some}
+use Rattle.std.proofs.Common.{sym, ap, ◌∙◌, inl, inr, pow-suc, arith, pow_mono}
 use Rattle.masks.specs.Paper.{bit, has, With, Without, Below, Lowest}
+use Rattle.masks.specs.Ports.{Taken, NextPort}
 use Rattle.masks.specs.Tests.{lt_or_ge, eq_or_ne}
 use Rattle.masks.proofs.Laws as laws
 use Rattle.masks.proofs.Laws.{has_on, has_off, same_bits}
@@ -66,3 +67,12 @@ asking_unique rows r s hr hs a b = same_bits 32 r s hr hs (λ k l. bit_of_has r 
 -- `masks::first`: also where m has no port, and then the answer is 32
 pub lowest_unique : (m r s : ℕ) → Lowest m r → Lowest m s → r ≡ s
 lowest_unique = laws.lowest_unique
+
+-- `next` of what `masks::ports` gives: the port, and what is left
+pub next_unique : (m n k : ℕ) (r s : Option ℕ) → NextPort m r n → NextPort m s k → (r ≡ s) × (n ≡ k)
+next_unique m n k None None a b = (refl, a.1 ∙ sym b.1)
+next_unique m n k None (Some j) a b = absurd (omega (arith, a.0, b.some))
+next_unique m n k (Some i) None a b = absurd (omega (arith, b.0, a.some))
+next_unique m n k (Some i) (Some j) a b =
+    let e : i ≡ j = lowest_unique m i j a.lowest b.lowest in
+    (ap Some e, without_unique m i n k a.others (rw (sym e) at b.others))
