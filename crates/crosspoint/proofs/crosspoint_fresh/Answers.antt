@@ -1,5 +1,5 @@
 -- `crosspoint::crosspoint_fresh` meets its contract. Assumes nothing.
-use Rattle.std.proofs.Common.{refl, eqb-true}
+use Rattle.std.proofs.Common.{refl}
 use Rattle.std.proofs.lemmas.Result.{err_from_is_err_and}
 use Rattle.card.specs.Limits as Limits
 use Rattle.crosspoint.specs.Paper.{fresh_lists}
@@ -15,9 +15,6 @@ returns-in_err-long c = let p = err_from_is_err_and c.from_residual.result c.fro
 pub returns-in_err-fresh : goal.returns-in_err-fresh
 returns-in_err-fresh c = let p = err_from_is_err_and c.from_residual-in_err-fresh.result c.from_residual-in_err-fresh.ensures.1 in
     rw (p.1, p.2) (fresh_refused _ _ _ _ _ c.in_err-fresh.ensures (long_passed _ c.in_ok-long.ensures) _ refl (Limits.refused _))
-
-pub put_record-requires : goal.put_record-requires
-put_record-requires c = eqb-true _ _ (long_passed _ c.in_ok-long.ensures)
 
 pub returns : goal.returns
 returns c = fresh_done _ _ _ _ _ c.in_ok-fresh.ensures (long_passed _ c.in_ok-long.ensures) _ refl c.put_record.ensures

@@ -1,5 +1,5 @@
 -- `crosspoint::crosspoint_log_check` meets its contract. Assumes nothing.
-use Rattle.std.proofs.Common.{refl, eqb-true}
+use Rattle.std.proofs.Common.{refl}
 use Rattle.std.proofs.lemmas.Result.{err_from_is_err_and}
 use Rattle.card.specs.Limits as Limits
 use Rattle.crosspoint.proofs.Outcomes.{long_passed}
@@ -12,9 +12,6 @@ returns-in_err-long c = let p = err_from_is_err_and c.from_residual.result c.fro
 pub returns-in_err-checked : goal.returns-in_err-checked
 returns-in_err-checked c = let p = err_from_is_err_and c.from_residual-in_err-checked.result c.from_residual-in_err-checked.ensures.1 in
     rw (p.1, p.2) (check_refused _ _ (long_passed _ c.in_ok-long.ensures) _ c.in_err-checked.ensures _ refl (Limits.refused _))
-
-pub copy_from_slice-requires : goal.copy_from_slice-requires
-copy_from_slice-requires c = eqb-true _ _ (long_passed _ c.in_ok-long.ensures)
 
 pub returns : goal.returns
 returns c = check_passed _ _ (long_passed _ c.in_ok-long.ensures) _ c.in_ok-checked.ensures _ refl _ refl c.copy_from_slice.ensures.after

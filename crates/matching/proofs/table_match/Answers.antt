@@ -2,7 +2,7 @@
 use Rattle.std.proofs.Common.{sym}
 use Rattle.std.proofs.lemmas.Result.{err_from_is_err_and}
 use Rattle.matches.specs.Paper.{table_in, table_out, table_rows, table_match}
-use Rattle.matching.specs.Answers.{answer_refused, answer_accepted, light_bounded}
+use Rattle.matching.specs.Answers.{answer_refused, answer_accepted}
 use Rattle.matching.specs.Queues.{accepted_sized}
 use Rattle.matching.proofs.table_match.Goals as goal
 
@@ -14,9 +14,6 @@ returns-in_err-of_table c = let p = err_from_is_err_and c.from_residual.result c
 
 pub invariant_of-table : goal.invariant_of-table
 invariant_of-table c = record { sized = accepted_sized _ _ _ c.args.hold (sym c.in_ok-of_table.ensures) }
-
-pub heaviest-requires : goal.heaviest-requires
-heaviest-requires c = light_bounded _ _ _ c.in_totals-inputs.ensures.1 c.out_totals-outputs.ensures.1
 
 pub returns : goal.returns
 unfolding table_match

@@ -6,7 +6,7 @@ use Rattle.slot.specs.declared.Report.{Report}
 use Rattle.slot.specs.Paper as paper
 use Rattle.slot.specs.Paper.{send_all}
 use Rattle.slot.specs.Answers.{leaving_of, sending_of}
-use Rattle.slot.specs.Sending.{Along, along_unsent, one_keeps, still, partner_at, all_step}
+use Rattle.slot.specs.Sending.{Along, along_unsent, one_keeps, partner_at, all_step}
 use Rattle.slot.proofs.Record.send_all.Goals as goal
 use Rattle.slot.proofs.Record.send_all.Goals.{in-Some, in_default}
 
@@ -16,22 +16,6 @@ loop-k-init c = let e = c.none.ensures in
     let cells = ap (λ (r : paper.Report). r.cells) e in
     let waits = ap (λ (r : paper.Report). r.waits) e in
     rw (cells, waits) (along_unsent _ c.requires.ready, refl, refl)
-
-pub send_one-requires : goal.send_one-requires
-send_one-requires c = let a = c.loop-k.invariant.0 in
-    let m = c.args.self.now.card.m in
-    let p = c.args.partners in
-    let high = c.requires.ready.sizes.ports.ins.high in
-    let full : length p ≡ 32 = search rules in
-    let n : length (take m p) ≡ m = length-take-le m p (omega arith) in
-    let l : c.loop-k.k < m = omega (arith, c.loop-k-test.true) in
-    let e = ap (λ (o : Out). o.0) (get_or-take m p c.loop-k.k (out 0) l) ∙ partner_at p c.loop-k.k (omega arith) in
-    let w = c.requires.partners.all c.loop-k.k l in
-    record {
-      ready = a.ready;
-      input = rw a.card l;
-      output = still _ _ _ _ a (rw e w);
-    }
 
 pub loop-k-preserved : goal.loop-k-preserved
 loop-k-preserved c = let r = c.send_one in

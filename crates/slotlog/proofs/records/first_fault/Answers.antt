@@ -4,11 +4,8 @@ use Rattle.card.specs.Paper.{refusal_number}
 use Rattle.card.specs.Limits.{refused}
 use Rattle.slotlog.specs.Paper.{slot_refusal}
 use Rattle.slotlog.specs.Slots.{slot_from}
-use Rattle.slotlog.specs.Faults.{fault_start, fault_here, fault_past, fault_end}
+use Rattle.slotlog.specs.Faults.{fault_here, fault_past, fault_end}
 use Rattle.slotlog.proofs.records.first_fault.Goals as goal
-
-pub loop-k-init : goal.loop-k-init
-loop-k-init g c = record { passed = omega arith; rest = λ f e. fault_start _ _ }
 
 pub returns-in-Err : goal.returns-in-Err
 returns-in-Err g c = λ f e.

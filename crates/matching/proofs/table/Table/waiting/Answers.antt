@@ -18,6 +18,3 @@ loop-j-preserved c =
     let here : get_or (between from (from + c.args.self.now.n) c.args.self.now.counts.now) c.loop-j.j 0 ≡ at c.args.self.now.counts.now (from + c.loop-j.j) =
     get_or-between c.args.self.now.counts.now from (from + c.args.self.now.n) c.loop-j.j 0 (omega arith) in
     (search rules, mask_step _ _ _ _ (omega arith) (search rules) c.loop-j.invariant.1 (rw here at c.mark-row.ensures))
-
-pub returns : goal.returns
-returns c = let e : c.loop-j.j ≡ c.args.self.now.n = omega arith in rw e at c.loop-j.invariant.1
