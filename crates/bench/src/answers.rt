@@ -10,7 +10,7 @@ pub struct MatchLine(pub Result<Match, Refusal>);
 
 impl Display for MatchLine {
     fn fmt<W: fmt::Write>(&self, f: &mut Formatter<W>) -> fmt::Result {
-        let found = self.0.unwrap_or(Match::none());
+        let found = Match::of(self.0);
         write!(
             f,
             "M {} {} {}",
@@ -31,12 +31,7 @@ pub struct RankLine(pub Result<RankForm, Refusal>);
 
 impl Display for RankLine {
     fn fmt<W: fmt::Write>(&self, f: &mut Formatter<W>) -> fmt::Result {
-        let blank = RankForm {
-            rows: [0; 32],
-            inputs: [0; 32],
-            outputs: [0; 32],
-        };
-        let form = self.0.unwrap_or(blank);
+        let form = RankForm::of(self.0);
         write!(f, "K {}", card::number(&self.0))?;
         let lists = form
             .rows

@@ -252,5 +252,5 @@ fn give(found: Match, partners: &mut [u16], totals: &mut [u32])
 fn two_halves(low: u32, high: u32) -> u64
     ensures { result ≡ halves low high }
 {
-    u64::from(low) + (u64::from(high) << 32)
+    u64::from(low) + u64::from(high) * 4294967296
 }

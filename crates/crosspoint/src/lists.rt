@@ -46,7 +46,7 @@ pub fn holdable(list: &[u32]) -> bool
 {
     let mut ok = true;
     for number in list.iter() {
-        ok &= *number < 65536;
+        ok = card::also(ok, *number < 65536);
     }
     ok
 }

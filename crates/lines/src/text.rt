@@ -84,6 +84,7 @@ impl Line {
     }
 
     // A number's digits.
+    #[tactic(auto, using(crate::specs::Text::adds), unfolding(crate::specs::Paper::digits))]
     fn digits(&mut self, x: u32)
         requires { len_of self.old + 10 ≤ room }
         ensures { Adds self.old self.new (decimal x) 10 }

@@ -1,5 +1,5 @@
 // Ports as bits of a u32. `bit m k` is 1 where port k is in the set m, and 0 where it is not.
-// The only crate that takes sets apart by their bits. A port of 32 or more is in no set, and nothing puts it there.
+// The only crate that shifts or combines bits. A port of 32 or more is in no set, and nothing puts it there.
 // A set is a plain u32, since C hands it over and takes it so.
 #![tactic(auto)]
 

@@ -20,9 +20,12 @@ use Rattle.matching.specs.declared.RankForm.{RankForm}
 use Rattle.matching.specs.Queues.{Light}
 use Rattle.matching.specs.Ranks.{rank_cong}
 
--- a match, with the partners as numbers
+-- a match beside a refusal's number, with the partners as numbers
+abbrev pub match_beside : ℕ → Match → paper.Answer
+match_beside number r = record { refusal = number; partners = numbers r.partners; pairs = r.size; weighs = r.weight }
+
 abbrev pub match_of : Match → paper.Answer
-match_of r = record { refusal = 0; partners = numbers r.partners; pairs = r.size; weighs = r.weight }
+match_of r = match_beside 0 r
 
 -- "A refused match or rank form has partners none and all else 0"
 abbrev pub refused_answer : ℕ → paper.Answer
@@ -39,8 +42,15 @@ answer_of (Err v) = refused_answer (refusal_number v)
 abbrev pub refused_form : ℕ → paper.RankForm
 refused_form number = record { refusal = number; rows = tab ports (λ i. 0); inputs = tab ports (λ i. 0); outputs = tab ports (λ i. 0) }
 
+-- a rank form beside a refusal's number
+abbrev pub form_beside : ℕ → RankForm → paper.RankForm
+form_beside number r = record { refusal = number; rows = r.rows; inputs = r.inputs; outputs = r.outputs }
+
+abbrev pub no_form : paper.RankForm
+no_form = refused_form 0
+
 abbrev pub form_of : Result RankForm Refusal → paper.RankForm
-form_of (Ok r) = record { refusal = 0; rows = r.rows; inputs = r.inputs; outputs = r.outputs }
+form_of (Ok r) = form_beside 0 r
 form_of (Err v) = refused_form (refusal_number v)
 
 -- ---- refused

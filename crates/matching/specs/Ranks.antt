@@ -8,12 +8,14 @@ use Prim.Native.Nat.{ℕ, zero, suc, ◌+◌, ◌-◌, ◌≤◌, ◌<◌, suc-l
 use native.Mathlib.Omega.{arith}
 use Rattle.std.proofs.Math.ListN.{drop_of_length-le}
 use borrow.Author.Tests.{eqb-true, eq-eqb}
-use Rattle.masks.specs.Paper.{keep}
-use Rattle.masks.specs.Tests.{clash, same_test}
+use Rattle.masks.specs.Paper.{keep, sum}
+use Rattle.masks.specs.Sum.{sum_step}
+use Rattle.masks.specs.Tests.{clash, same_test, keep_lt, keep_ge, keep_le}
+use Rattle.masks.proofs.Chains.{count_by_places}
 use Rattle.std.specs.List.{list_any, count_by}
 use Rattle.std.proofs.lemmas.List.Sums.{sum_by-cons}
 use Rattle.card.specs.Paper.{ports}
-use Rattle.matches.specs.Paper.{tab, member, those, distinct, smaller, rank}
+use Rattle.matches.specs.Paper.{at, tab, member, those, distinct, smaller, rank}
 use Rattle.matches.proofs.Lists.{tab_cong}
 
 -- one port more in front of the distinct weights l
@@ -55,6 +57,32 @@ smaller_count x (y ∷ l) = sum_by-cons (λ z. cond (ltb z x) 1 0) y l ∙ ap₂
     kept : (b : Bool) → cond b 1 0 ≡ keep b 1
     kept true = refl
     kept false = refl
+
+-- ---- as a loop counts them, level by level: 1, and 1 for each of the first k of l that is smaller
+
+unfoldable pub counted : (x k : ℕ) (l : List ℕ) → ℕ
+counted x k l = 1 + sum k (λ i. keep (ltb (at l i) x) 1)
+
+pub counted_none : (x : ℕ) (l : List ℕ) → 1 ≡ counted x 0 l
+unfolding sum counted
+counted_none x l = refl
+
+pub counted_smaller : (x k r : ℕ) (l : List ℕ) → r ≡ counted x k l → at l k < x → r + 1 ≡ counted x (k + 1) l
+unfolding counted
+counted_smaller x k r l e h = omega (arith, e, sum_step k (λ i. keep (ltb (at l i) x) 1), keep_lt (at l k) x 1 h)
+
+pub counted_other : (x k r : ℕ) (l : List ℕ) → r ≡ counted x k l → x ≤ at l k → r ≡ counted x (k + 1) l
+unfolding counted
+counted_other x k r l e h = omega (arith, e, sum_step k (λ i. keep (ltb (at l i) x) 1), keep_ge (at l k) x 1 h)
+
+pub counted_few : (x k : ℕ) (l : List ℕ) → counted x k l ≤ 1 + k
+unfolding sum counted
+counted_few x zero l = omega arith
+counted_few x (suc k) l = omega (arith, counted_few x k l, keep_le (ltb (at l k) x) 1)
+
+pub counted_all : (x : ℕ) (l : List ℕ) → counted x (length l) l ≡ 1 + smaller x l
+unfolding counted
+counted_all x l = ap (λ (n : ℕ). 1 + n) (sym (count_by_places (λ y. ltb y x) l 0) ∙ smaller_count x l)
 
 -- ---- one port more: it does not ask, its weight is there already, or it is new
 

@@ -10,7 +10,8 @@ mod table;
 ghost use Rattle.std.specs.Prelude.{◌≡◌, Ok, Err, length};
 ghost use Rattle.search.specs.First.{numbers};
 ghost use Rattle.matches.specs.Paper.{best, size_of, weight_match, table_match, rank_form};
-ghost use Rattle.matching.specs.Answers.{Bounded, answer_of, match_of, no_match, Matched, form_of};
+ghost use Rattle.matching.specs.Answers.{Bounded, answer_of, match_of, no_match, Matched, form_of, match_beside, form_beside, no_form};
+ghost use Rattle.card.specs.Paper.{number_of};
 
 use card::{Card, Out, Refusal};
 use table::Table;
@@ -41,6 +42,34 @@ impl Match {
             size: 0,
             weight: 0,
         }
+    }
+
+    // What an answer has beside its refusal: the match, and no match where it is refused.
+    pub fn of(answer: Result<Match, Refusal>) -> Match
+        ensures { match_beside (number_of answer) result ≡ answer_of answer }
+    {
+        answer.unwrap_or(Match::none())
+    }
+}
+
+impl RankForm {
+    // 0 in all of it.
+    #[tactic(auto, unfolding(matches::specs::Paper::tab))]
+    pub fn none() -> RankForm
+        ensures { form_beside 0 result ≡ no_form }
+    {
+        RankForm {
+            rows: [0; 32],
+            inputs: [0; 32],
+            outputs: [0; 32],
+        }
+    }
+
+    // What an answer has beside its refusal: the rank form, and 0 in all of it where it is refused.
+    pub fn of(answer: Result<RankForm, Refusal>) -> RankForm
+        ensures { form_beside (number_of answer) result ≡ form_of answer }
+    {
+        answer.unwrap_or(RankForm::none())
     }
 }
 
@@ -80,11 +109,14 @@ pub fn rank_form(
     ensures { form_of result ≡ rank_form m n rows inputs outputs }
 {
     refusals::of_weights(m, n, rows, inputs, outputs)?;
-    Ok(RankForm {
+    let mut form = RankForm {
         rows,
-        inputs: ranks::ranks(search::asking(rows), inputs),
-        outputs: ranks::ranks(refusals::asking_outs(rows), outputs),
-    })
+        inputs,
+        outputs,
+    };
+    ranks::ranks(search::asking(rows), &mut form.inputs);
+    ranks::ranks(refusals::asking_outs(rows), &mut form.outputs);
+    Ok(form)
 }
 
 // The first of the heaviest matches of an accepted problem. No weight is too large for it: 32 pairs of at most 2 × 2,097,120.

@@ -30,55 +30,56 @@ impl Levels {
 
     // One weight more: it goes in front where it is new.
     #[tactic(auto, using(crate::specs::Ranks::member_any))]
-    fn add(self, weight: u32) -> Levels
-        requires { 1 ≤ self.from }
-        ensures { Added true weight self.from self.weights result.from result.weights }
+    fn add(&mut self, weight: u32)
+        requires { 1 ≤ self.old.from }
+        ensures { Added true weight self.old.from self.old.weights self.new.from self.new.weights }
     {
-        let mut weights = self.weights;
         if self.distinct().contains(&weight) {
-            return self;
+            return;
         }
         let from = self.from - 1;
-        weights[from] = weight;
-        Levels { from, weights }
+        self.weights[from] = weight;
+        self.from = from;
     }
 
     // Of a port that asks, 1 plus the number of smaller weights.
-    #[tactic(auto, using(crate::specs::Ranks::smaller_count))]
     fn rank(&self, asks: bool, weight: u32) -> u32
         ensures { result ≡ keep asks (1 + smaller weight (drop self.now.from self.now.weights)) }
     {
         if !asks {
             return 0;
         }
-        1 + self
-            .distinct()
-            .iter()
-            .filter(|level| **level < weight)
-            .count() as u32
+        // A `for`: a filtered `count` takes a branch for each level. docs/LOOK-BACK.md, d1, has the times.
+        let levels = self.distinct();
+        let mut rank = 1;
+        for level in levels.iter() {
+            if *level < weight {
+                rank += 1;
+            }
+        }
+        rank
     }
 }
 
 // Each weight replaced by its port's rank.
-pub fn ranks(asking: u32, mut weights: [u32; 32]) -> [u32; 32]
-    ensures { result ≡ tab 32 (rank (has asking) (at weights)) }
+pub fn ranks(asking: u32, weights: &mut [u32; 32])
+    ensures { weights.new ≡ tab 32 (rank (has asking) (at weights.old)) }
 {
     let levels = levels_of(asking, weights);
     for (i, weight) in weights.iter_mut().enumerate() {
         *weight = levels.rank(masks::has(asking, i as u32), *weight);
     }
-    weights
 }
 
 // The distinct weights of the ports that ask, from the last port to the first.
-fn levels_of(asking: u32, weights: [u32; 32]) -> Levels
-    ensures { Found (has asking) (at weights) 0 result.from result.weights }
+fn levels_of(asking: u32, weights: &[u32; 32]) -> Levels
+    ensures { Found (has asking) (at weights.now) 0 result.from result.weights }
 {
-    let mut levels = Levels::none(weights);
+    let mut levels = Levels::none(*weights);
     // By number, which is asked of the set and of the list: behind `enumerate().rev()` a proof does not know which port it is.
     for i in (0..32u32).rev() {
         if masks::has(asking, i) {
-            levels = levels.add(weights[i as usize]);
+            levels.add(weights[i as usize]);
         }
     }
     levels

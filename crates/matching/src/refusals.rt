@@ -65,9 +65,10 @@ pub fn of_table(m: u32, n: u32, counts: &[u16], hold: u32) -> Result<(), Refusal
 fn rows_fit(m: u32, n: u32, rows: [u32; 32]) -> bool
     ensures { result ≡ rows_fit m n rows }
 {
-    (0..32u32)
-        .zip(rows.iter())
-        .all(|(i, row)| row_fits(m, n, i, *row))
+    // A fold that looks at every row: `all` takes a branch for each. docs/LOOK-BACK.md, d2, has the times.
+    (0..32u32).zip(rows.iter()).fold(true, |ok, (i, row)| {
+        card::also(ok, row_fits(m, n, i, *row))
+    })
 }
 
 // Whether the row of input i names outputs below n alone, and is 0 where there is no such input.
@@ -90,9 +91,12 @@ fn weights_fit(rows: [u32; 32], inputs: [u32; 32], outputs: [u32; 32]) -> bool
 fn side_fits(asking: u32, weights: [u32; 32]) -> bool
     ensures { result ≡ side_fits asking weights }
 {
+    // A fold, as in `rows_fit`.
     (0..32u32)
         .zip(weights.iter())
-        .all(|(i, weight)| weight_fits(masks::has(asking, i), *weight))
+        .fold(true, |ok, (i, weight)| {
+            card::also(ok, weight_fits(masks::has(asking, i), *weight))
+        })
 }
 
 // Whether a weight is one that a port may have: any where the port does not ask.

@@ -94,7 +94,7 @@ impl Record {
         // A fold that looks at every queue: `all` takes a branch for each, and 1.1 µs of a slot at 32 × 32 × 2 more than the loop that stood here.
         let queues = self.heads.iter().zip(self.counts.iter());
         queues.enumerate().fold(true, |ok, (k, (&head, &count))| {
-            ok & Queue { head, count }.fits(used, depth, k)
+            card::also(ok, Queue { head, count }.fits(used, depth, k))
         })
     }
 

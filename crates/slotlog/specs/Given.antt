@@ -1,11 +1,16 @@
 -- What the writer is given: its lists slot by slot, a record straight from them, and the log. Assumes nothing.
-use Rattle.std.specs.Prelude.{◌≡◌, ℕ, ◌*◌, ◌≤◌, ◌<◌, length, drop}
-use Rattle.std.proofs.Common.{arith}
+use Rattle.std.specs.Prelude.{◌≡◌, ℕ, ◌+◌, ◌*◌, ◌≤◌, ◌<◌, length, drop}
+use Rattle.std.proofs.Common.{sym, ap, ap₂, ◌∙◌, arith}
 use mathlib.Core.List.{List, ◌++◌}
 use Rattle.card.specs.Limits.{Sizes}
-use Rattle.slotlog.specs.Paper.{joined, slot_refusal, record_length, longest, slot_bytes, trailer_bytes, log_bytes, given_slot, log_length}
+use Rattle.card.specs.Paper.{ports}
+use Rattle.matches.specs.Paper.{at}
+use Rattle.slotlog.specs.Paper.{bytes, joined, slot_refusal, record_length, longest, slot_bytes, trailer_bytes, log_bytes, given_slot, log_length}
 use Rattle.slotlog.specs.Layout.{length_records, length_log}
 use Rattle.slotlog.specs.Put.{Put, put_on, put_front}
+use Rattle.slotlog.specs.Joined.{joined_cong}
+use Rattle.slotlog.specs.Arrived.{output_of, cell_of}
+use Rattle.slotlog.specs.Records.{arrival_bytes, bytes_in, bytes_of_record}
 
 -- sizes within their limits, M outputs and M cells for each hold, and no more slots than a log has
 pub record Lists (M N D : ℕ) (holds outputs cells : List ℕ) : Type 0 where
@@ -47,3 +52,13 @@ module _ (M N D : ℕ) (holds outputs cells : List ℕ) where
         is = put_front (put_on f g (length_records M N D (length holds) slots) (omega arith)) (omega (arith, long, h));
         long = omega (arith, long);
       }
+
+-- the record of slot k, straight from the lists: its hold, with its M outputs and M cells
+module _ (M N D : ℕ) (holds outputs cells : List ℕ) (k : ℕ) where
+  pub record_given : (outs cs : List ℕ) → M ≤ ports → length outs ≡ M → ((i : ℕ) → i < M → at outs i ≡ at outputs (k * M + i)) → ((i : ℕ) → i < M → at cs i ≡ at cells (k * M + i))
+      → bytes_of_record (at holds k) outs cs ≡ slot_bytes M (given_slot M N D holds outputs cells k)
+  unfolding slot_bytes given_slot
+  record_given outs cs few long o c =
+      ap (λ (l : List ℕ). bytes 4 (at holds k) ++ l)
+      (ap (λ (n : ℕ). joined n (bytes_in outs cs)) long
+      ∙ joined_cong M _ _ (λ i l. ap₂ arrival_bytes (o i l ∙ sym (output_of M _ _ i l few)) (c i l ∙ sym (cell_of M _ _ i l few))))

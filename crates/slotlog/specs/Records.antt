@@ -7,6 +7,7 @@ use native.Mathlib.Omega.{arith}
 use Rattle.std.proofs.Math.ListN.{take}
 use Rattle.card.specs.declared.Arrivals.{Arrivals}
 use Rattle.card.specs.Paper.{ports, output_at, cell_at}
+use Rattle.matches.specs.Paper.{at}
 use Rattle.slotlog.specs.Paper.{number, bytes, Slot, record_length, slot_at, joined, slot_bytes}
 use Rattle.slotlog.specs.Parts.{Stands, stands_left, stands_right, part_join}
 use Rattle.slotlog.specs.Numbers.{Bytes, length_bytes, number_back, bytes_number}
@@ -28,6 +29,17 @@ bytes_at a i = arrival_bytes (output_at a i) (cell_at a i)
 
 pub length_at : (a : Arrivals) (i : ℕ) → length (bytes_at a i) ≡ 6
 length_at a i = length_arrival (output_at a i) (cell_at a i)
+
+-- what an input has, of an output and a cell that stand in two lists
+abbrev pub bytes_in : (outputs cells : List ℕ) (i : ℕ) → List ℕ
+bytes_in outputs cells i = arrival_bytes (at outputs i) (at cells i)
+
+pub length_in : (outputs cells : List ℕ) (i : ℕ) → length (bytes_in outputs cells i) ≡ 6
+length_in outputs cells i = length_arrival (at outputs i) (at cells i)
+
+-- a record of a hold and what stands in two lists
+abbrev pub bytes_of_record : (hold : ℕ) (outputs cells : List ℕ) → List ℕ
+bytes_of_record hold outputs cells = bytes 4 hold ++ joined (length outputs) (bytes_in outputs cells)
 
 -- "Per slot: hold, 4 bytes; then for each of M inputs, output 2 bytes and cell 4 bytes"
 pub length_slot : (M : ℕ) (s : Slot) → length (slot_bytes M s) ≡ record_length M

@@ -62,8 +62,8 @@ pub fn first_fault<F: Fn(u32) -> Slot>(card: Card, count: u32, slot: F) -> Resul
 impl Slot {
     // Refusals 3 and 4 of one record.
     #[tactic(auto, unfolding(crate::specs::Paper::slot_refusal))]
-    pub(crate) fn check(self, card: Card) -> Result<(), Refusal>
-        ensures { number_of result ≡ slot_refusal card.m card.n (slot_from self) }
+    pub(crate) fn check(&self, card: Card) -> Result<(), Refusal>
+        ensures { number_of result ≡ slot_refusal card.m card.n (slot_from self.now) }
     {
         if !card::names_below(card.n, self.hold) {
             return Err(Refusal::Hold);

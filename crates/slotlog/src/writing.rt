@@ -3,6 +3,7 @@ ghost use Rattle.std.specs.Prelude.{◌≡◌, ◌+◌, ◌*◌, ◌≤◌, ◌<
 ghost use Rattle.card.specs.Paper.{number_of};
 ghost use Rattle.slotlog.specs.Paper.{record_length, longest, slot_bytes};
 ghost use Rattle.slotlog.specs.Put.{Put};
+ghost use Rattle.slotlog.specs.Records.{bytes_of_record};
 ghost use Rattle.slotlog.specs.Slots.{slot_from};
 ghost use Rattle.slotlog.specs.Given.{Lists, Filled};
 ghost use Rattle.slotlog.specs.WriteRefusals.{size_refusal};
@@ -83,7 +84,7 @@ impl<'a> Given<'a> {
         let size = records::record_length(self.card.m);
         // By number: what is written through a part that `chunks_exact_mut` lends is not known of the buffer afterwards.
         for k in 0..self.holds.len() {
-            self.slot(k).put(buffer, k * size, self.card.m);
+            self.put_slot(k, buffer, k * size);
         }
         self.put_trailer(buffer);
         (self.records_length() + TRAILER) as u32
@@ -103,12 +104,25 @@ impl<'a> Given<'a> {
     {
         let Given { card, holds, .. } = self;
         let back = self.records_length();
-        put(buffer, back, &(back as u32).to_le_bytes());
-        put(buffer, back + 4, &(card.m as u16).to_le_bytes());
-        put(buffer, back + 6, &(card.n as u16).to_le_bytes());
-        put(buffer, back + 8, &(card.d as u16).to_le_bytes());
-        put(buffer, back + 10, &(holds.len() as u32).to_le_bytes());
-        put(buffer, back + 14, &MARK);
+        put(buffer, back, (back as u32).to_le_bytes());
+        put(buffer, back + 4, (card.m as u16).to_le_bytes());
+        put(buffer, back + 6, (card.n as u16).to_le_bytes());
+        put(buffer, back + 8, (card.d as u16).to_le_bytes());
+        put(buffer, back + 10, (holds.len() as u32).to_le_bytes());
+        put(buffer, back + 14, MARK);
+    }
+
+    // The record of the slot numbered k, at a place: from the lists as they were lent, with no Slot in between. docs/LOOK-BACK.md, d4, has the times.
+    fn put_slot(self, k: usize, buffer: &mut [u8], place: usize)
+        requires there { k < length self.holds.now }
+        requires room { place + record_length self.card.m ≤ length buffer.old }
+        ensures { Put buffer.old place (slot_bytes self.entry.card.m (slot_of self.entry k)) buffer.new }
+    {
+        let m = self.card.m as usize;
+        let from = k * m;
+        let outputs = &self.outputs[from..from + m];
+        let cells = &self.cells[from..from + m];
+        put_record(buffer, place, self.holds[k], outputs, cells);
     }
 
     // The slot numbered k, from 0.
@@ -127,27 +141,24 @@ impl<'a> Given<'a> {
     }
 }
 
-impl Slot {
-    // The record of a slot of M inputs: its hold, then its arrivals.
-    fn put(self, buffer: &mut [u8], place: usize, m: u32)
-        requires few { m ≤ 32 }
-        requires room { place + record_length m ≤ length buffer.old }
-        ensures { Put buffer.old place (slot_bytes m (slot_from self)) buffer.new }
-    {
-        put(buffer, place, &self.hold.to_le_bytes());
-        let outputs = &self.arrivals.outputs[..m as usize];
-        for (i, (output, cell)) in outputs.iter().zip(&self.arrivals.cells).enumerate() {
-            put(buffer, place + (4 + 6 * i), &output.0.to_le_bytes());
-            put(buffer, place + (6 + 6 * i), &cell.to_le_bytes());
-        }
+// A record: a slot's hold, then what arrives at each input.
+fn put_record(buffer: &mut [u8], place: usize, hold: u32, outputs: &[u16], cells: &[u32])
+    requires both { length cells.now ≡ length outputs.now }
+    requires room { place + record_length (length outputs.now) ≤ length buffer.old }
+    ensures { Put buffer.old place (bytes_of_record hold outputs.now cells.now) buffer.new }
+{
+    put(buffer, place, hold.to_le_bytes());
+    for (i, (output, cell)) in outputs.iter().zip(cells).enumerate() {
+        put(buffer, place + (4 + 6 * i), output.to_le_bytes());
+        put(buffer, place + (6 + 6 * i), cell.to_le_bytes());
     }
 }
 
-// Bytes, from a place on.
+// N bytes, from a place on.
 #[tactic(auto, using(crate::specs::Put::put_part))]
-fn put(buffer: &mut [u8], place: usize, bytes: &[u8])
-    requires { place + length bytes.now ≤ length buffer.old }
-    ensures { Put buffer.old place bytes.now buffer.new }
+fn put<const N: usize>(buffer: &mut [u8], place: usize, bytes: [u8; N])
+    requires { place + N ≤ length buffer.old }
+    ensures { Put buffer.old place bytes.entry buffer.new }
 {
-    buffer[place..place + bytes.len()].copy_from_slice(bytes);
+    buffer[place..place + N].copy_from_slice(&bytes);
 }

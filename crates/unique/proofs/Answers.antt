@@ -2,7 +2,7 @@
 -- with one right side, so together they are `answer_of r ≡ answer_of s`; a lent list that a call may change stands in its promise, and is equal too.
 -- The functions that neither this file nor `Bits` names promise `r ≡ ..` itself: `masks::has` and `count`, those of `card`, `Queue::stands`, `fits`,
 -- `wait`, `Record::empty`, `of`, `well_formed`, `waiting`; or the number of an answer without a value, which is `card`'s `verdict_unique`: `playback::replay`.
-use Rattle.std.specs.Prelude.{◌≡◌, refl, Option, Some, None, IsSome, ◌↔◌, Result, Ok, Err, List, ℕ, ◌-◌, ◌<◌, length, replicate}
+use Rattle.std.specs.Prelude.{◌≡◌, refl, Option, Some, None, IsSome, IsTrue, ◌&&◌, nat_lt, ◌↔◌, Result, Ok, Err, List, ℕ, ◌-◌, ◌<◌, length, replicate}
 use Rattle.std.proofs.Common.{sym, ap, ap₂, ◌∙◌, arith, length-append}
 use Rattle.std.proofs.lemmas.List.{length-replicate, get_or-replicate}
 use Rattle.masks.specs.Tests.{clash}
@@ -17,10 +17,10 @@ use Rattle.search.specs.declared.choice.Found.{Found}
 use Rattle.search.specs.First.{numbers_unique, FirstOf}
 use Rattle.matching.specs.declared.Match.{Match}
 use Rattle.matching.specs.declared.RankForm.{RankForm}
-use Rattle.matching.specs.Answers.{match_of, answer_of, form_of}
+use Rattle.matching.specs.Answers.{match_beside, match_of, answer_of, form_beside, form_of}
 use Rattle.queue.specs.declared.Queue.{Queue}
 use Rattle.queue.specs.declared.Sent.{Sent}
-use Rattle.queue.specs.Paper.{Ring, ring_of, Sending, sent_of}
+use Rattle.queue.specs.Paper.{Ring, ring_of, standing, Sending, sent_of, send}
 use Rattle.slot.specs.declared.Record.{Record}
 use Rattle.slot.specs.declared.Report.{Report}
 use Rattle.slot.specs.declared.Stepped.{Stepped}
@@ -54,11 +54,19 @@ pub first_unique : (rows inputs outputs : List ℕ) (r s : Found) → FirstOf ro
 first_unique rows inputs outputs r s a b =
     ap₂ (λ (p : List Out) (w : ℕ). record { partners = p; weight = w }) (numbers_unique _ _ (a.partners ∙ sym b.partners)) (a.weighs ∙ sym b.weighs)
 
--- `Match::none`
-pub match_unique : (r s : Match) → match_of r ≡ match_of s → r ≡ s
-match_unique r s e =
+-- `Match::of`: a match beside any refusal's number
+pub beside_unique : (number : ℕ) (r s : Match) → match_beside number r ≡ match_beside number s → r ≡ s
+beside_unique number r s e =
     ap₂ (λ (p : List Out) (a : matches.Answer). record { partners = p; size = a.pairs; weight = a.weighs })
     (numbers_unique _ _ (ap (λ (a : matches.Answer). a.partners) e)) e
+
+-- `Match::none`
+pub match_unique : (r s : Match) → match_of r ≡ match_of s → r ≡ s
+match_unique = beside_unique 0
+
+-- `RankForm::of`, and `RankForm::none`
+pub ranks_unique : (number : ℕ) (r s : RankForm) → form_beside number r ≡ form_beside number s → r ≡ s
+ranks_unique number r s e = ap (λ (f : matches.RankForm). record { rows = f.rows; inputs = f.inputs; outputs = f.outputs }) e
 
 -- `matching::weighted_match`, `table_match`
 pub answer_unique : (r s : Result Match Refusal) → answer_of r ≡ answer_of s → r ≡ s
@@ -70,7 +78,7 @@ answer_unique = alike answer_of answer_of (λ (a : matches.Answer). a.refusal) n
 
 -- `matching::rank_form`
 pub form_unique : (r s : Result RankForm Refusal) → form_of r ≡ form_of s → r ≡ s
-form_unique = alike form_of form_of (λ (f : matches.RankForm). f.refusal) number number (λ r s e. ap (λ (f : matches.RankForm). record { rows = f.rows; inputs = f.inputs; outputs = f.outputs }) e)
+form_unique = alike form_of form_of (λ (f : matches.RankForm). f.refusal) number number (ranks_unique 0)
   where
     number : (r : Result RankForm Refusal) → (form_of r).refusal ≡ number_of r
     number (Ok r) = refl
@@ -84,18 +92,64 @@ pub ring_unique : (r s : Queue) (cells stamps cells' stamps' : List ℕ) → rin
 ring_unique r s cells stamps cells' stamps' e =
     (ap (λ (q : Ring). record { head = q.head; count = q.count }) e, ap (λ (q : Ring). q.cells) e, ap (λ (q : Ring). q.stamps) e)
 
+-- what is told of a cell that may have been sent
+abbrev cell_of : Option Sent → ℕ
+cell_of None = 0
+cell_of (Some x) = x.cell
+
+abbrev wait_for : Option Sent → ℕ
+wait_for None = 0
+wait_for (Some x) = x.wait
+
+one_sent : (r s : Option Sent) → (IsSome r → IsSome s) → (IsSome s → IsSome r) → cell_of r ≡ cell_of s → wait_for r ≡ wait_for s → r ≡ s
+one_sent (Some x) (Some y) f g c w = ap₂ (λ (a b : ℕ). Some (record { cell = a; wait = b })) c w
+one_sent None None f g c w = refl
+one_sent (Some x) None f g c w = absurd (clash (f refl) refl)
+one_sent None (Some y) f g c w = absurd (clash (g refl) refl)
+
+module _ (r : Option Sent) (q : Queue) (cells stamps : List ℕ) where
+  ring_told : (sent_of r q cells stamps).ring ≡ ring_of q cells stamps
+  ring_told = go r
+    where
+      go : (x : Option Sent) → (sent_of x q cells stamps).ring ≡ ring_of q cells stamps
+      go None = refl
+      go (Some x) = refl
+
+  cell_told : (sent_of r q cells stamps).cell ≡ cell_of r
+  cell_told = go r
+    where
+      go : (x : Option Sent) → (sent_of x q cells stamps).cell ≡ cell_of x
+      go None = refl
+      go (Some x) = refl
+
+  wait_told : (sent_of r q cells stamps).wait ≡ wait_for r
+  wait_told = go r
+    where
+      go : (x : Option Sent) → (sent_of x q cells stamps).wait ≡ wait_for x
+      go None = refl
+      go (Some x) = refl
+
 -- `Queue::send`: whether a cell goes is promised too
 pub sent_unique : (r s : Option Sent) (q p : Queue) (cells stamps cells' stamps' : List ℕ) (goes : Type 0) → (IsSome r ↔ goes) → (IsSome s ↔ goes)
     → sent_of r q cells stamps ≡ sent_of s p cells' stamps'
     → (r ≡ s) × (q ≡ p) × (cells ≡ cells') × (stamps ≡ stamps')
-sent_unique (Some x) (Some y) q p cells stamps cells' stamps' goes f g e =
-    let ring = ring_unique q p cells stamps cells' stamps' (ap (λ (z : Sending). z.ring) e) in
-    (ap (λ (z : Sending). Some (record { cell = z.cell; wait = z.wait })) e, ring.0, ring.1, ring.2)
-sent_unique None None q p cells stamps cells' stamps' goes f g e =
-    let ring = ring_unique q p cells stamps cells' stamps' (ap (λ (z : Sending). z.ring) e) in
-    (refl, ring.0, ring.1, ring.2)
-sent_unique (Some x) None q p cells stamps cells' stamps' goes f g e = absurd (clash (g.1 (f.0 refl)) refl)
-sent_unique None (Some y) q p cells stamps cells' stamps' goes f g e = absurd (clash (f.1 (g.0 refl)) refl)
+sent_unique r s q p cells stamps cells' stamps' goes f g e =
+    let ring = ring_unique q p cells stamps cells' stamps' (sym (ring_told r q cells stamps) ∙ ap (λ (z : Sending). z.ring) e ∙ ring_told s p cells' stamps') in
+    let cell = sym (cell_told r q cells stamps) ∙ ap (λ (z : Sending). z.cell) e ∙ cell_told s p cells' stamps' in
+    let wait = sym (wait_told r q cells stamps) ∙ ap (λ (z : Sending). z.wait) e ∙ wait_told s p cells' stamps' in
+    (one_sent r s (λ h. g.1 (f.0 h)) (λ h. f.1 (g.0 h)) cell wait, ring.0, ring.1, ring.2)
+
+-- so two answers of `Queue::send` that meet its promise, whatever was given, are equal
+pub send_unique : (slot : ℕ) (given : Queue) (cells stamps : List ℕ) (r s : Option Sent) (q p : Queue) (cells' stamps' cells'' stamps'' : List ℕ)
+    → (IsSome r ↔ IsTrue (standing (ring_of given cells stamps) && nat_lt 0 given.count)) → sent_of r q cells' stamps' ≡ send slot (ring_of given cells stamps)
+    → (IsSome s ↔ IsTrue (standing (ring_of given cells stamps) && nat_lt 0 given.count)) → sent_of s p cells'' stamps'' ≡ send slot (ring_of given cells stamps)
+    → (r ≡ s) × (q ≡ p) × (cells' ≡ cells'') × (stamps' ≡ stamps'')
+send_unique slot given cells stamps r s q p cells' stamps' cells'' stamps'' f d g e =
+    let same = d ∙ sym e in
+    let ring = ring_unique q p cells' stamps' cells'' stamps'' (sym (ring_told r q cells' stamps') ∙ ap (λ (z : Sending). z.ring) same ∙ ring_told s p cells'' stamps'') in
+    let cell = sym (cell_told r q cells' stamps') ∙ ap (λ (z : Sending). z.cell) same ∙ cell_told s p cells'' stamps'' in
+    let wait = sym (wait_told r q cells' stamps') ∙ ap (λ (z : Sending). z.wait) same ∙ wait_told s p cells'' stamps'' in
+    (one_sent r s (λ h. g.1 (f.0 h)) (λ h. f.1 (g.0 h)) cell wait, ring.0, ring.1, ring.2)
 
 -- ---- the card, with both lists as they are afterwards
 

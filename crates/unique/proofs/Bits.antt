@@ -3,7 +3,7 @@
 use Rattle.std.specs.Prelude.{◌≡◌, refl, ◌⊎◌, ◌≢◌, Bool, true, false, List, ℕ, zero, suc, ◌+◌, ◌^◌, ◌≤◌, ◌<◌, Option, None, Some}
 use Rattle.std.proofs.Common.{sym, ap, ◌∙◌, inl, inr, pow-suc, arith, pow_mono}
 use Rattle.masks.specs.Paper.{bit, has, With, Without, Below, Lowest}
-use Rattle.masks.specs.Ports.{Taken, NextPort}
+use Rattle.masks.specs.Ports.{NextPort}
 use Rattle.masks.specs.Tests.{lt_or_ge, eq_or_ne}
 use Rattle.masks.proofs.Laws as laws
 use Rattle.masks.proofs.Laws.{has_on, has_off, same_bits}

@@ -1,5 +1,5 @@
 -- `crosspoint::lists::holdable` meets its contract. Assumes nothing.
-use Rattle.std.proofs.Common.{◌≡◌, sym, ap, arith}
+use Rattle.std.proofs.Common.{◌≡◌, ◌∙◌, sym, ap, arith}
 use mathlib.Core.Bool.{◌&&◌}
 use lib.Dec.{ltb}
 use Rattle.masks.specs.Tests.{every_step, every_none}
@@ -11,7 +11,8 @@ pub loop-number-init : goal.loop-number-init
 loop-number-init c = sym (every_none _)
 
 pub loop-number-preserved : goal.loop-number-preserved
-loop-number-preserved c = rw every_step (ap (λ b. b && ltb (at c.args.list.now c.loop-number.number-index) 65536) c.loop-number.invariant)
+loop-number-preserved c =
+    rw every_step (c.also-ok.ensures ∙ ap (λ b. b && ltb (at c.args.list.now c.loop-number.number-index) 65536) c.loop-number.invariant)
 
 pub returns : goal.returns
 unfolding holdable

@@ -11,7 +11,7 @@ loop-i-init c = (search rules, passed_none 32 _ _ (search rules))
 
 pub loop-i-preserved : goal.loop-i-preserved
 loop-i-preserved c = let i = c.loop-i.i in
-    let here : get_or c.loop-i.weight-items i 0 ≡ at c.args.weights i = ap (λ l. at l i) c.loop-i.invariant.1 ∙ passed_here 32 i _ _ i c.loop-i-test.true (omega arith) in
+    let here : get_or c.loop-i.weights i 0 ≡ at c.args.weights.now i = ap (λ l. at l i) c.loop-i.invariant.1 ∙ passed_here 32 i _ _ i c.loop-i-test.true (omega arith) in
     (search rules, passed_step 32 _ _ _ _ _ c.loop-i-test.true c.loop-i.invariant.1 ((rw (c.has.ensures, here) at c.rank.ensures) ∙ found_rank _ _ _ _ c.levels_of-levels.ensures i))
 
 pub returns : goal.returns

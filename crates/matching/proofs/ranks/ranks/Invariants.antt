@@ -7,7 +7,7 @@ use Rattle.matching.specs.Fill.{passed}
 use Rattle.matching.proofs.ranks.ranks.Given as goal
 
 abbrev pub invariant-loop-i : goal.invariant-loop-i
-invariant-loop-i l = (l.i ≤ 32) × (l.weight-items ≡ passed 32 l.i (rank (has l.asking) (at l.fn.weights)) (at l.fn.weights))
+invariant-loop-i l = (l.i ≤ 32) × (l.weights ≡ passed 32 l.i (rank (has l.asking) (at l.fn.weights)) (at l.fn.weights))
 
 abbrev pub decreases-loop-i : goal.decreases-loop-i
 decreases-loop-i l = 32 - l.i

@@ -1,4 +1,4 @@
--- `search::pairing::empty` meets its contract. Assumes nothing.
+-- `search::pairing::Pairing::empty` meets its contract. Assumes nothing.
 use Rattle.search.specs.Pair.{empty_law}
 use Rattle.search.proofs.pairing.Pairing.empty.Goals as goal
 

@@ -1,7 +1,7 @@
 -- `slotlog::writing::Given::put` meets its contract. Assumes nothing.
-use Rattle.std.proofs.Common.{◌≡◌, sym, ap, ◌∙◌, refl, length, arith, rules}
+use Rattle.std.proofs.Common.{◌≡◌, sym, ◌∙◌, refl, length, arith, rules}
 use Rattle.slotlog.specs.Paper.{slot_bytes}
-use Rattle.slotlog.specs.Put.{put_as, put_none, put_next}
+use Rattle.slotlog.specs.Put.{put_none, put_next}
 use Rattle.slotlog.specs.Records.{length_slot}
 use Rattle.slotlog.specs.Given.{filled}
 use Rattle.slotlog.specs.Writer.{slot_of}
@@ -13,7 +13,7 @@ loop-k-init c = record { passed = omega arith; long = refl; put = put_none _ _ _
 pub loop-k-preserved : goal.loop-k-preserved
 loop-k-preserved c =
     let given = c.args.self in
-    let slot = put_as (ap (slot_bytes given.card.m) c.slot.ensures) c.put.ensures in
+    let slot = c.put_slot.ensures in
     record {
       passed = omega arith;
       long = search rules;
